@@ -1,0 +1,2 @@
+-- The addresses' laws.
+pub mod Back

@@ -1,0 +1,4 @@
+-- Laws that every crate uses.
+pub mod Cases
+pub mod Table
+pub mod Decides

@@ -1,0 +1,3 @@
+-- What the contracts of every crate cite of the refusals.
+pub mod Refusal
+pub mod Result
