@@ -1,0 +1,2 @@
+-- What the contracts of every field reader and writer cite.
+pub mod Fields
