@@ -1,0 +1,210 @@
+//! The speed of the port beside the Rust: the same inputs, the same process, the best of nine; buffers are not cleared first.
+use crate::cases::Random;
+use crate::port::{c, Splitter};
+use ironsight::addr::BusAddr;
+use ironsight::codec;
+use ironsight::frame::{FrameSplitter, RawFrame};
+use ironsight::protocol::shot::*;
+use std::hint::black_box;
+use std::time::Instant;
+
+const BYTES: usize = 8 << 20;
+const TIMES: u32 = 9;
+
+/// Keeps a value from being optimised away.
+fn sink<T>(x: T) {
+    black_box(x);
+}
+
+/// The least seconds of nine runs.
+fn best(mut f: impl FnMut()) -> f64 {
+    (0..TIMES)
+        .map(|_| {
+            let start = Instant::now();
+            f();
+            start.elapsed().as_secs_f64()
+        })
+        .fold(f64::MAX, f64::min)
+}
+
+fn row(name: &str, bytes: usize, rust: impl FnMut(), port: impl FnMut(), copy: f64) {
+    let (rust, port) = (best(rust), best(port));
+    let mib = |s: f64| bytes as f64 / s / (1 << 20) as f64;
+    println!("| {name} | {:.0} | {:.0} | {:.2} | {:.3} |", mib(rust), mib(port), rust / port, mib(port) / copy);
+}
+
+fn frames(r: &mut Random) -> Vec<Vec<u8>> {
+    let (mut list, mut total) = (Vec::new(), 0);
+    while total < BYTES {
+        let mut payload: Vec<u8> = (0..r.below(300)).map(|_| r.next() as u8).collect();
+        payload.iter_mut().for_each(|b| *b = if *b >= 0xF0 && r.below(2) == 0 { 0x55 } else { *b });
+        let wire = RawFrame { dest: BusAddr::App, src: BusAddr::Dsp, type_id: 0xD4, payload }.encode();
+        total += wire.len();
+        list.push(wire);
+    }
+    list
+}
+
+fn rust_split(stream: &[u8], chunk: usize) -> usize {
+    let mut s = FrameSplitter::new();
+    stream.chunks(chunk).map(|c| s.feed(c).iter().map(Vec::len).sum::<usize>()).sum()
+}
+
+fn port_split(stream: &[u8], chunk: usize) -> usize {
+    let mut s = Splitter::new(2048);
+    let mut sum = 0;
+    for c in stream.chunks(chunk) {
+        let mut at = 0;
+        while at < c.len() {
+            let fed = s.feed(&c[at..]);
+            sum += fed.frame.map_or(0, |f| f.2);
+            at += fed.taken;
+        }
+    }
+    sum
+}
+
+fn splitting(stream: &[u8], copy: f64) {
+    for chunk in [16, 64, 512, 4_096, 65_536] {
+        assert_eq!(rust_split(stream, chunk), port_split(stream, chunk));
+        let rust = || sink(rust_split(black_box(stream), chunk));
+        let port = || sink(port_split(black_box(stream), chunk));
+        row(&format!("split, chunks of {chunk}"), stream.len(), rust, port, copy);
+    }
+}
+
+fn framing(wires: &[Vec<u8>], copy: f64) {
+    let total = wires.iter().map(Vec::len).sum();
+    let (mut payload, mut header, mut values) = (vec![0u8; 2048], [0u64; 4], [0u64; 3]);
+    row(
+        "parse",
+        total,
+        || wires.iter().for_each(|w| sink(RawFrame::parse(black_box(w)))),
+        || {
+            wires.iter().for_each(|w| unsafe {
+                let (p, h, v) = (payload.as_mut_ptr(), header.as_mut_ptr(), values.as_mut_ptr());
+                black_box(c::mvd_parse(w.as_ptr(), w.len(), p, 2048, h, 4, v, 3));
+            })
+        },
+        copy,
+    );
+    let parsed: Vec<RawFrame> = wires.iter().map(|w| RawFrame::parse(w).unwrap()).collect();
+    let (mut wire, mut length) = (vec![0u8; 2048], 0usize);
+    row(
+        "encode",
+        total,
+        || parsed.iter().for_each(|f| sink(black_box(f).encode())),
+        || {
+            parsed.iter().for_each(|f| unsafe {
+                let (p, w, v) = (f.payload.as_ptr(), wire.as_mut_ptr(), values.as_mut_ptr());
+                black_box(c::mvd_encode(0x10, 0x40, 0xD4, p, f.payload.len(), w, 2048, &mut length, v, 3));
+            })
+        },
+        copy,
+    );
+}
+
+/// Decodes over 64 payloads in turn.
+fn decode(name: &str, payloads: &[Vec<u8>], rust: impl Fn(&[u8]), mut port: impl FnMut(&[u8]), copy: f64) {
+    let turns = BYTES / payloads.iter().map(Vec::len).sum::<usize>();
+    let total = turns * payloads.iter().map(Vec::len).sum::<usize>();
+    row(
+        name,
+        total,
+        || (0..turns).for_each(|_| payloads.iter().for_each(|p| rust(black_box(p)))),
+        || (0..turns).for_each(|_| payloads.iter().for_each(|p| port(black_box(p)))),
+        copy,
+    );
+}
+
+fn decoding(r: &mut Random, copy: f64) {
+    let mut made = |len: usize, first: &[u8]| -> Vec<Vec<u8>> {
+        (0..64)
+            .map(|_| {
+                let mut p: Vec<u8> = (0..len).map(|_| r.next() as u8).collect();
+                p[..first.len()].copy_from_slice(first);
+                p
+            })
+            .collect()
+    };
+    let (mut w, mut x, mut v, mut t) = ([0i32; 64], [0f64; 256], [0u64; 3], 0f64);
+    let (wp, xp, vp) = (w.as_mut_ptr(), x.as_mut_ptr(), v.as_mut_ptr());
+    macro_rules! record {
+        ($name:literal, $rust:ident, $port:ident, $len:expr) => {
+            decode(
+                $name,
+                &made($len, &[]),
+                |p| sink($rust::decode(p)),
+                |p| sink(unsafe { c::$port(p.as_ptr(), p.len(), wp, 64, xp, 256, vp, 3) }),
+                copy,
+            );
+        };
+    }
+    record!("decode D4", FlightResult, mvd_flight_result, 157);
+    record!("decode E8", FlightResultV1, mvd_flight_result_v1, 94);
+    record!("decode ED", ClubResult, mvd_club_result, 167);
+    record!("decode EF", SpinResult, mvd_spin_result, 138);
+    let track = |p: &[u8]| sink(unsafe { c::mvd_tracking_status(p.as_ptr(), p.len(), wp, 64, vp, 3) });
+    decode("decode E9", &made(82, &[]), |p| sink(TrackingStatus::decode(p)), track, copy);
+    let speed = |p: &[u8]| {
+        sink(unsafe { c::mvd_speed_profile(p.as_ptr(), p.len(), xp, 256, wp, 64, &mut t, vp, 3) })
+    };
+    decode("decode D9", &made(172, &[]), |p| sink(SpeedProfile::decode(p)), speed, copy);
+    let prc = |p: &[u8]| unsafe {
+        black_box(c::mvd_prc_data(p.as_ptr(), p.len(), wp, 64, vp, 3));
+        (0..*wp.add(1)).for_each(|i| sink(c::mvd_prc_point(p.as_ptr(), p.len(), i as usize, wp.add(2), 62, xp, 256, vp, 3)));
+    };
+    decode("decode EC, three points", &made(184, &[183, 0, 0, 3]), |p| sink(PrcData::decode(p)), prc, copy);
+    let club_prc = |p: &[u8]| unsafe {
+        let n = black_box(c::mvd_club_prc(p.as_ptr(), p.len()));
+        (0..n).for_each(|i| sink(c::mvd_club_prc_point(p.as_ptr(), p.len(), i, wp, 64, xp, 256, vp, 3)));
+    };
+    decode("decode EE, three points", &made(229, &[228]), |p| sink(ClubPrc::decode(p)), club_prc, copy);
+}
+
+fn floats(r: &mut Random, copy: f64) {
+    let data: Vec<u8> = (0..BYTES / 5).flat_map(|_| {
+        let mut f = ((r.below(60) as i16 - 30) as u16).to_be_bytes().to_vec();
+        f.extend_from_slice(&(r.next() as u32).to_be_bytes()[1..]);
+        f
+    }).collect();
+    let (mut value, mut v) = (0f64, [0u64; 3]);
+    row(
+        "FLOAT40 read",
+        data.len(),
+        || (0..data.len() / 5).for_each(|i| sink(codec::read_float40(black_box(&data), i * 5))),
+        || (0..data.len() / 5).for_each(|i| unsafe {
+            black_box(c::mvd_read_float40(black_box(&data).as_ptr(), data.len(), i * 5, &mut value, v.as_mut_ptr(), 3));
+        }),
+        copy,
+    );
+    let xs: Vec<f64> = (0..BYTES / 5).map(|_| f64::from_bits(r.next() & !(1 << 62))).collect();
+    let (mut old, mut buf) = (Vec::with_capacity(BYTES + 5), vec![0u8; BYTES + 5]);
+    row(
+        "FLOAT40 write",
+        xs.len() * 5,
+        || {
+            old.clear();
+            xs.iter().for_each(|&x| codec::write_float40(&mut old, black_box(x)));
+        },
+        || xs.iter().enumerate().for_each(|(i, &x)| unsafe {
+            black_box(c::mvd_write_float40(buf.as_mut_ptr(), buf.len(), i * 5, black_box(x), v.as_mut_ptr(), 3));
+        }),
+        copy,
+    );
+}
+
+pub fn run() {
+    let mut r = Random::new(8);
+    let wires = frames(&mut r);
+    let stream = wires.concat();
+    let mut to = vec![0u8; stream.len()];
+    let copy_seconds = best(|| black_box(&mut to).copy_from_slice(black_box(&stream)));
+    let copy = stream.len() as f64 / copy_seconds / (1 << 20) as f64;
+    println!("plain memory copy: {copy:.0} MiB/s\n");
+    println!("| operation | Rust, MiB/s | port, MiB/s | port / Rust | port / copy |\n|---|---|---|---|---|");
+    splitting(&stream, copy);
+    framing(&wires, copy);
+    decoding(&mut r, copy);
+    floats(&mut r, copy);
+}

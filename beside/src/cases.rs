@@ -1,0 +1,386 @@
+//! Makes cases: every boundary that document 01 names, short inputs exhaustively, and random, extreme and damaged ones.
+use crate::answer::Case;
+use crate::ops;
+use ironsight::addr::BusAddr;
+use ironsight::frame::RawFrame;
+
+/// A small generator of numbers (xorshift64*), so that a seed makes the same cases everywhere.
+pub struct Random(u64);
+
+impl Random {
+    pub fn new(seed: u64) -> Self {
+        Self(seed.wrapping_mul(0x9E37_79B9_7F4A_7C15) | 1)
+    }
+
+    pub fn next(&mut self) -> u64 {
+        self.0 ^= self.0 >> 12;
+        self.0 ^= self.0 << 25;
+        self.0 ^= self.0 >> 27;
+        self.0.wrapping_mul(0x2545_F491_4F6C_DD1D)
+    }
+
+    pub fn below(&mut self, n: usize) -> usize {
+        (self.next() % n as u64) as usize
+    }
+
+    fn one_of<T: Copy>(&mut self, xs: &[T]) -> T {
+        xs[self.below(xs.len())]
+    }
+
+    /// Bytes that meet the rules' edges often: markers, escapes and their codes, extremes, anything.
+    fn byte(&mut self) -> u8 {
+        match self.below(4) {
+            0 => self.one_of(&[0xF0, 0xF1, 0xFD, 0xFA, 0x00, 0x01, 0x02, 0x03, 0x04, 0x05]),
+            1 => self.one_of(&[0x00, 0x7F, 0x80, 0xFF]),
+            _ => self.next() as u8,
+        }
+    }
+
+    pub fn bytes(&mut self, n: usize) -> Vec<u8> {
+        match self.below(6) {
+            0 => vec![self.byte(); n],
+            1 => (0..n).map(|_| self.next() as u8).collect(),
+            _ => (0..n).map(|_| self.byte()).collect(),
+        }
+    }
+}
+
+const ADDRESSES: [u8; 4] = [0x10, 0x12, 0x30, 0x40];
+
+/// A message's operation and least length.
+const MESSAGES: [(u8, usize); 5] = [
+    (ops::FLIGHT_RESULT, 157),
+    (ops::FLIGHT_RESULT_V1, 94),
+    (ops::CLUB_RESULT, 167),
+    (ops::SPIN_RESULT, 138),
+    (ops::TRACKING_STATUS, 82),
+];
+
+/// The place of a scale, by message: it is made 0, negative or small often.
+const SCALES: [(u8, usize); 4] =
+    [(ops::FLIGHT_RESULT, 109), (ops::FLIGHT_RESULT_V1, 46), (ops::CLUB_RESULT, 47), (ops::SPEED_PROFILE, 4)];
+
+fn case(op: u8, a: u64, b: u64, data: Vec<u8>) -> Case {
+    Case { op, a, b, data }
+}
+
+fn wire(r: &mut Random, payload: Vec<u8>) -> Vec<u8> {
+    let addr = |b| BusAddr::from_byte(b).unwrap();
+    let (dest, src) = (addr(r.one_of(&ADDRESSES)), addr(r.one_of(&ADDRESSES)));
+    RawFrame { dest, src, type_id: r.byte(), payload }.encode()
+}
+
+/// Some bytes with one changed, cut off, doubled or dropped.
+fn damage(r: &mut Random, mut bytes: Vec<u8>) -> Vec<u8> {
+    if bytes.is_empty() {
+        return bytes;
+    }
+    let at = r.below(bytes.len());
+    match r.below(5) {
+        0 => bytes[at] = r.byte(),
+        1 => bytes.truncate(at),
+        2 => bytes.insert(at, r.byte()),
+        3 => drop(bytes.remove(at)),
+        _ => bytes[at] ^= 1 << r.below(8),
+    }
+    bytes
+}
+
+/// A float's bits: every exponent, subnormals, infinities, NaN, or a divisor that the messages use.
+fn float_bits(r: &mut Random) -> u64 {
+    match r.below(6) {
+        0 => r.one_of(&[100.0, 1000.0, 1_000_000.0, 10.0, 1.0, -1.0, 0.1, 3.0f64]).to_bits(),
+        1 => r.one_of(&[0.0, -0.0, f64::INFINITY, f64::NEG_INFINITY, f64::MAX, f64::MIN_POSITIVE, 5e-324]).to_bits(),
+        2 => (r.next() & 1) << 63 | r.next() >> 12,
+        3 => 0x7FF << 52 | r.next() & !(0x7FF << 52),
+        _ => r.next(),
+    }
+}
+
+fn field_case(r: &mut Random) -> Case {
+    let op = r.one_of(&[0x01, 0x02, 0x03, 0x04, 0x05, 0x06, 0x07, 0x08, 0x09]);
+    let len = r.below(12);
+    let at = match r.below(8) {
+        0 => u64::MAX - r.below(9) as u64,
+        1 => r.next(),
+        _ => r.below(len + 3) as u64,
+    };
+    case(op, at, float_bits(r), r.bytes(len))
+}
+
+fn write_case(r: &mut Random) -> Case {
+    let op = r.one_of(&[0x11, 0x12, 0x13, 0x14, 0x15, 0x16, 0x17, 0x17, 0x18, 0x18]);
+    let len = r.below(10);
+    let at = if r.below(10) == 0 { u64::MAX - r.below(9) as u64 } else { r.below(len + 2) as u64 };
+    let value = if r.below(3) == 0 { u64::from_be_bytes(r.bytes(8).try_into().unwrap()) } else { float_bits(r) };
+    case(op, at, value, r.bytes(len))
+}
+
+fn frame_case(r: &mut Random) -> Case {
+    let len = match r.below(10) {
+        0 => r.below(600),
+        1..=4 => r.below(8),
+        _ => r.below(60),
+    };
+    match r.below(5) {
+        0 => {
+            let len = r.below(16);
+            let mut bytes = r.bytes(len);
+            if len > 1 && r.below(4) > 0 {
+                bytes[0] = 0xF0;
+                bytes[len - 1] = 0xF1;
+            }
+            case(ops::PARSE, 64, 0, bytes)
+        }
+        1 => {
+            let payload = r.bytes(len);
+            let sound = wire(r, payload);
+            let room = (len + r.below(3)).saturating_sub(r.below(3));
+            case(ops::PARSE, room as u64, 0, sound)
+        }
+        2 => {
+            let payload = r.bytes(len);
+            let sound = wire(r, payload);
+            case(ops::PARSE, 700, 0, damage(r, sound))
+        }
+        _ => {
+            let payload = r.bytes(len);
+            let (dest, src) = if r.below(8) == 0 { (r.byte(), r.byte()) } else { (r.one_of(&ADDRESSES), r.one_of(&ADDRESSES)) };
+            let fields = (dest as u64) << 16 | (src as u64) << 8 | r.byte() as u64;
+            let exact = case(ops::ENCODE, fields, 2000, payload);
+            let room = crate::rust::ask(&exact).whole.first().map_or(20, |&n| n as u64);
+            case(ops::ENCODE, fields, (room + r.below(3) as u64).saturating_sub(r.below(2) as u64), exact.data)
+        }
+    }
+}
+
+fn stream(r: &mut Random) -> Vec<u8> {
+    let mut bytes = Vec::new();
+    for _ in 0..r.below(7) {
+        let len = r.below(30);
+        let part = r.bytes(len);
+        let next = match r.below(4) {
+            0 => part,
+            1 => {
+                let sound = wire(r, part);
+                damage(r, sound)
+            }
+            _ => wire(r, part),
+        };
+        bytes.extend(next);
+    }
+    bytes
+}
+
+fn split_case(r: &mut Random) -> Case {
+    let bytes = stream(r);
+    let room = match r.below(4) {
+        0 => r.below(3),
+        1 => r.below(12),
+        _ => r.below(64),
+    };
+    let turn: Vec<u8> = (0..8).map(|_| if r.below(6) == 0 { 0 } else { r.below(40) as u8 }).collect();
+    case(ops::SPLIT, room as u64, u64::from_be_bytes(turn.try_into().unwrap()), bytes)
+}
+
+/// A scale of 0, 1, a negative one, or anything.
+fn set_scale(r: &mut Random, op: u8, data: &mut [u8]) {
+    let Some(&(_, at)) = SCALES.iter().find(|s| s.0 == op) else {
+        return;
+    };
+    if at + 3 <= data.len() {
+        let scale: i32 = r.one_of(&[0, 1, -1, -2, 2, 100, 1000, -8_388_608, 8_388_607]);
+        data[at..at + 3].copy_from_slice(&scale.to_be_bytes()[1..]);
+    }
+}
+
+fn message_case(r: &mut Random) -> Case {
+    let (op, least) = r.one_of(&MESSAGES);
+    let len = if r.below(10) == 0 { r.below(least + 21) } else { least + r.below(21) };
+    let mut data = r.bytes(len);
+    if r.below(2) == 0 {
+        set_scale(r, op, &mut data);
+    }
+    case(op, 0, 0, data)
+}
+
+fn by_number_case(r: &mut Random) -> Case {
+    let (message, op, least, numbers) =
+        r.one_of(&[(0xD4u64, ops::FLIGHT_RESULT, 157, 52), (0xE8, ops::FLIGHT_RESULT_V1, 94, 31), (0xED, ops::CLUB_RESULT, 167, 55)]);
+    let len = least + r.below(4) - r.below(2);
+    let mut data = r.bytes(len);
+    set_scale(r, op, &mut data);
+    let number = if r.below(12) == 0 { r.next() } else { r.below(numbers + 2) as u64 };
+    case(ops::FIELD, number, message, data)
+}
+
+fn other_case(r: &mut Random) -> Case {
+    match r.below(8) {
+        0 => {
+            let len = r.below(60);
+            let mut data = r.bytes(len);
+            set_scale(r, ops::SPEED_PROFILE, &mut data);
+            case(ops::SPEED_PROFILE, (len.saturating_sub(12) / 2 + r.below(3)).saturating_sub(r.below(2)) as u64, 0, data)
+        }
+        1 => {
+            let len = r.below(260);
+            let mut data = r.bytes(len);
+            if len > 3 && r.below(4) > 0 {
+                data[0] = r.one_of(&[3, 63, 123, 183, 243, 0, 4, 62]);
+                data[3] = r.below(6) as u8;
+            }
+            let op = r.one_of(&[ops::PRC_DATA, ops::PRC_POINT]);
+            case(op, r.below(6) as u64, 0, data)
+        }
+        2 => {
+            let len = r.below(320);
+            let mut data = r.bytes(len);
+            if len > 0 && r.below(4) > 0 {
+                data[0] = r.one_of(&[0, 75, 76, 152, 228, 255]);
+            }
+            let op = r.one_of(&[ops::CLUB_PRC, ops::CLUB_PRC_POINT]);
+            case(op, r.below(5) as u64, 0, data)
+        }
+        3 => {
+            let len = 74 + r.below(6);
+            case(ops::ENCODE_REQUEST, 0, r.next() & 0xFFFF, r.bytes(len))
+        }
+        4 | 5 => {
+            let mut data = Vec::new();
+            for _ in 0..r.below(4) {
+                let n = r.below(5);
+                data.extend(r.bytes(n));
+                data.extend_from_slice(r.one_of(&[&b"PROCESSED"[..], b"IDLE", b"BALL TRIGGER", b"BALL TRIGGE", b"\n\0", b" IDL", b"\x1F\x20\x21"]));
+            }
+            case(ops::SHOT_TEXT, 0, 0, data)
+        }
+        _ => {
+            let len = 156 + r.below(3);
+            case(ops::BAY_LOG, r.next() & 0xFFFF_FFFF, 30 + r.below(5) as u64, r.bytes(len))
+        }
+    }
+}
+
+/// Any case at all.
+pub fn random(r: &mut Random) -> Case {
+    match r.below(16) {
+        0..=3 => field_case(r),
+        4..=6 => write_case(r),
+        7..=9 => frame_case(r),
+        10 | 11 => split_case(r),
+        12 => message_case(r),
+        13 => by_number_case(r),
+        _ => other_case(r),
+    }
+}
+
+/// All the bounded cases, each once: `take` is called with every one.
+pub fn bounded(r: &mut Random, mut take: impl FnMut(Case)) {
+    // FLOAT40: every exponent, with mantissas at the edges and sampled
+    for e in 0..=u16::MAX {
+        for m in [0, 1, 0x40_0000, 0x7F_FFFF, 0x80_0000, 0xFF_FFFF, r.next() as u32 & 0xFF_FFFF] {
+            let mut data = e.to_be_bytes().to_vec();
+            data.extend_from_slice(&m.to_be_bytes()[1..]);
+            take(case(ops::READ_FLOAT40, 0, 0, data));
+        }
+    }
+    // f64 patterns of every exponent, both signs
+    for e in 0..2048u64 {
+        for f in [0, 1, 0xF_FFFF_FFFF_FFFF, 1 << 51, 0x3FFF_FFFF, 0x4000_0000, r.next() >> 12] {
+            for s in 0..2u64 {
+                for op in [ops::WRITE_FLOAT40, ops::WRITE_FLOAT40_BITS] {
+                    take(case(op, 0, s << 63 | e << 52 | f, vec![ops::UNTOUCHED; 5]));
+                }
+            }
+        }
+    }
+    // every INT16 and every UINT16, and every first byte of the wider fields
+    for n in 0..=u16::MAX {
+        for op in [ops::READ_INT16, ops::READ_UINT16] {
+            take(case(op, 0, 0, n.to_be_bytes().to_vec()));
+        }
+        for op in [ops::WRITE_INT16, ops::WRITE_UINT16] {
+            take(case(op, 0, n as u64, vec![0; 2]));
+        }
+        for op in [ops::READ_INT24, ops::READ_UINT24, ops::READ_INT32, ops::READ_UINT32] {
+            let tail = r.bytes(2);
+            take(case(op, 0, 0, [&n.to_be_bytes()[..], &tail].concat()));
+        }
+    }
+    // every length from 0 to 20 past the least
+    for (op, least) in MESSAGES {
+        for len in 0..=least + 20 {
+            take(case(op, 0, 0, r.bytes(len)));
+        }
+    }
+    for len in 0..=32 {
+        for room in 0..=12 {
+            take(case(ops::SPEED_PROFILE, room, 0, r.bytes(len)));
+        }
+    }
+    for header in 0..=255u8 {
+        for len in [0, 3, 4, 63, 64, 65, 124, 184] {
+            let mut data = r.bytes(len);
+            if len > 0 {
+                data[0] = header;
+            }
+            take(case(ops::PRC_DATA, 0, 0, data.clone()));
+            take(case(ops::PRC_POINT, r.below(4) as u64, 0, data.clone()));
+            take(case(ops::CLUB_PRC, 0, 0, data.clone()));
+            take(case(ops::CLUB_PRC_POINT, r.below(4) as u64, 0, data));
+        }
+    }
+    // every field by number
+    for (message, least, numbers) in [(0xD4, 157, 52), (0xE8, 94, 31), (0xED, 167, 55)] {
+        for number in 0..numbers + 2 {
+            for len in [least - 1, least, least + 1] {
+                take(case(ops::FIELD, number, message, r.bytes(len)));
+            }
+        }
+    }
+    // every wire of up to eight bytes over the bytes that matter, between the markers
+    let bytes = [0x40, 0x10, 0x00, 0x01, 0x50, 0x51, 0xF0, 0xF1, 0xFA, 0xFD];
+    for n in 0..=5 {
+        for mut k in 0..bytes.len().pow(n) {
+            let mut wire = vec![0xF0];
+            for _ in 0..n {
+                wire.push(bytes[k % bytes.len()]);
+                k /= bytes.len();
+            }
+            wire.push(0xF1);
+            take(case(ops::PARSE, 2, 0, wire));
+        }
+    }
+    // every stream of up to six bytes over four, for H from 0 to 4, whole and byte by byte
+    let bytes = [0x00, 0xF0, 0xF1, 0xFD];
+    for n in 0..=6 {
+        for k in 0..bytes.len().pow(n) {
+            let stream: Vec<u8> = (0..n).map(|i| bytes[k / bytes.len().pow(i) % bytes.len()]).collect();
+            for room in 0..=4 {
+                for cuts in [0, 0x0101_0101_0101_0101, 0x0200_0103_0002_0100] {
+                    take(case(ops::SPLIT, room, cuts, stream.clone()));
+                }
+            }
+        }
+    }
+}
+
+/// The longest payload, one more, and the checksum that wraps.
+pub fn long(r: &mut Random) -> Vec<Case> {
+    let fields = 0x40_1001;
+    let mut cases = vec![
+        case(ops::ENCODE, fields, 140_000, vec![0xFF; 257]),
+        case(ops::ENCODE, fields, 140_000, vec![0xFD; 65_535]),
+        case(ops::ENCODE, fields, 140_000, vec![0xFD; 65_536]),
+        case(ops::ENCODE, fields, 131_000, vec![0xF0; 65_535]),
+    ];
+    for n in [257, 2_048, 65_535] {
+        let payload = r.bytes(n);
+        let sound = wire(r, payload);
+        cases.push(case(ops::PARSE, n as u64, 0, sound.clone()));
+        cases.push(case(ops::PARSE, n as u64 - 1, 0, sound.clone()));
+        cases.push(case(ops::SPLIT, sound.len() as u64, 0xFFFF_FFFF_FFFF_FFFF, sound.clone()));
+        cases.push(case(ops::SPLIT, sound.len() as u64 - 1, 0xFFFF_FFFF_FFFF_FFFF, sound));
+    }
+    cases
+}

@@ -1,0 +1,61 @@
+//! Runs the port beside the Rust: the same cases to both, every value compared, floats by their bits.
+//!
+//!     beside [CASES [SEED]]    compare; prints the count and the seed, or the first case that differs
+//!     beside list DIR          write the fixed list: DIR/stdin has the cases, DIR/stdout the Rust's answers
+//!     beside bench             the speed of both, and the ratio
+mod answer;
+mod bench;
+mod cases;
+mod list;
+mod ops;
+mod port;
+mod rust;
+
+use answer::Case;
+use cases::Random;
+use std::process::exit;
+
+const SEED: u64 = 2026;
+const CASES: u64 = 10_000_000;
+
+/// Both sides' answers to a case; the first that differs ends the run.
+fn compare(c: &Case) {
+    let (rust, port) = (rust::ask(c), port::ask(c));
+    if rust != port {
+        println!("DIFFERS\n  case  {}\n  rust  {}\n  port  {}", c.line(), rust.line(), port.line());
+        exit(1);
+    }
+}
+
+fn run(count: u64, seed: u64) {
+    let mut r = Random::new(seed);
+    let mut done = 0u64;
+    cases::bounded(&mut r, |c| {
+        compare(&c);
+        done += 1;
+    });
+    for c in cases::long(&mut r) {
+        compare(&c);
+        done += 1;
+    }
+    while done < count {
+        compare(&cases::random(&mut r));
+        done += 1;
+    }
+    println!("{done} cases, seed {seed}: every answer of the port is the Rust's");
+}
+
+fn main() {
+    let args: Vec<String> = std::env::args().skip(1).collect();
+    match args.iter().map(String::as_str).collect::<Vec<_>>()[..] {
+        ["bench"] => bench::run(),
+        ["list", dir] => list::write(dir),
+        [] => run(CASES, SEED),
+        [count] => run(count.parse().expect("a count of cases"), SEED),
+        [count, seed] => run(count.parse().expect("a count of cases"), seed.parse().expect("a seed")),
+        _ => {
+            eprintln!("beside [CASES [SEED]] | beside list DIR | beside bench");
+            exit(2);
+        }
+    }
+}

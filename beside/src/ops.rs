@@ -1,0 +1,102 @@
+//! The operations by number, and what a case's two numbers mean for each.
+
+/// Readers at a place: a is the place, b the scale's bits for the scaled ones.
+pub const READ_INT16: u8 = 0x01;
+pub const READ_UINT16: u8 = 0x02;
+pub const READ_INT24: u8 = 0x03;
+pub const READ_UINT24: u8 = 0x04;
+pub const READ_INT32: u8 = 0x05;
+pub const READ_UINT32: u8 = 0x06;
+pub const READ_FLOAT40: u8 = 0x07;
+pub const READ_INT24_SCALED: u8 = 0x08;
+pub const READ_INT16_SCALED: u8 = 0x09;
+/// Writers at a place of the lent bytes: a is the place, b the value (its low bits, or a float's bits).
+pub const WRITE_INT16: u8 = 0x11;
+pub const WRITE_UINT16: u8 = 0x12;
+pub const WRITE_INT24: u8 = 0x13;
+pub const WRITE_UINT24: u8 = 0x14;
+pub const WRITE_INT32: u8 = 0x15;
+pub const WRITE_UINT32: u8 = 0x16;
+pub const WRITE_FLOAT40: u8 = 0x17;
+pub const WRITE_FLOAT40_BITS: u8 = 0x18;
+/// a is the lent payload buffer's length.
+pub const PARSE: u8 = 0x20;
+/// a is DEST, SRC and TYPE, b the lent wire buffer's length.
+pub const ENCODE: u8 = 0x21;
+/// a is H; the eight bytes of b are the sizes of the chunks offered, in turn (see `sizes`).
+pub const SPLIT: u8 = 0x22;
+pub const FLIGHT_RESULT: u8 = 0x30;
+pub const FLIGHT_RESULT_V1: u8 = 0x31;
+pub const CLUB_RESULT: u8 = 0x32;
+pub const SPIN_RESULT: u8 = 0x33;
+pub const TRACKING_STATUS: u8 = 0x34;
+/// a is the lent speed buffer's length.
+pub const SPEED_PROFILE: u8 = 0x35;
+pub const PRC_DATA: u8 = 0x36;
+/// a is the index.
+pub const PRC_POINT: u8 = 0x37;
+pub const CLUB_PRC: u8 = 0x38;
+/// a is the index.
+pub const CLUB_PRC_POINT: u8 = 0x39;
+/// b is the start index; the bytes are the lent buffer.
+pub const ENCODE_REQUEST: u8 = 0x3A;
+pub const SHOT_TEXT: u8 = 0x3B;
+/// a is the number, b the message.
+pub const FIELD: u8 = 0x40;
+/// a is the event number, b the lent buffer's length.
+pub const BAY_LOG: u8 = 0x41;
+
+/// What a lent buffer holds before a call.
+pub const UNTOUCHED: u8 = 0xA5;
+pub const KEPT: f64 = -7.25;
+
+/// The kind and the width of a reader at a place.
+pub fn reader(op: u8) -> Option<(u64, u64)> {
+    Some(match op {
+        READ_INT16 | READ_INT16_SCALED => (1, 2),
+        READ_UINT16 => (2, 2),
+        READ_INT24 | READ_INT24_SCALED => (3, 3),
+        READ_UINT24 => (4, 3),
+        READ_INT32 => (5, 4),
+        READ_UINT32 => (6, 4),
+        READ_FLOAT40 => (7, 5),
+        _ => return None,
+    })
+}
+
+/// The sizes of the chunks in which a stream is offered: the bytes of b in turn, 64 where b is 0; they cover the stream.
+pub fn sizes(b: u64, len: usize) -> Vec<usize> {
+    let turn = if b == 0 { [64; 8] } else { b.to_be_bytes() };
+    let mut out = Vec::new();
+    let (mut at, mut i) = (0, 0);
+    while at < len {
+        let size = turn[i % 8] as usize;
+        out.push(size);
+        at += size;
+        i += 1;
+    }
+    out
+}
+
+type Fields = Vec<Result<i64, f64>>;
+
+fn by_number(answer: &crate::answer::Answer, counts: &[usize], numbers: usize, skip: usize) -> Fields {
+    let mut whole = answer.whole.iter().skip(skip).map(|&n| n as i64);
+    let mut figures = answer.figures.iter().map(|&x| f64::from_bits(x));
+    (0..numbers)
+        .map(|n| if counts.contains(&n) { Ok(whole.next().unwrap()) } else { Err(figures.next().unwrap()) })
+        .collect()
+}
+
+pub fn flight_fields(a: &crate::answer::Answer) -> Fields {
+    by_number(a, &[0, 14, 15, 16, 17, 18, 19, 36], 52, 0)
+}
+
+pub fn flight_v1_fields(a: &crate::answer::Answer) -> Fields {
+    by_number(a, &[0, 11, 12, 15], 31, 0)
+}
+
+/// ED's first whole number is byte 1, which has no number.
+pub fn club_fields(a: &crate::answer::Answer) -> Fields {
+    by_number(a, &[0, 15], 55, 1)
+}
