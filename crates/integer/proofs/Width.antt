@@ -4,7 +4,7 @@ use mathlib.Core.Path.{_≡_, refl, sym, ap, subst, _∙_}
 use mathlib.Core.List.{List}
 use native.Mathlib.Omega.{arith}
 use native.Mathlib.Numerals.{add-one}
-use native.Mathlib.Nat.{pow-suc, lt-of-lt-of-le}
+use native.Mathlib.Nat.{pow-suc, mul-assoc, lt-of-lt-of-le}
 use lib.ListN.{length, getD, List·getD-eq-default}
 use lib.Arith.{digits-lt}
 use lib.Pow.{pow-add, pow-mono}
@@ -16,14 +16,6 @@ use mir.ValLaws.{toZ-pos}
 use borrow.Author.Tests.{lt-ltb, le-ltb}
 use Rattle.error.proofs.Cases.{by-lt}
 use Rattle.integer.specs.Fields.{beAt, signed}
-
--- past the end there is nothing but zeros
-pub be-past : (k : ℕ) (s : List ℕ) (at : ℕ) → length s ≤ at → beAt k s at ≡ 0
-unfolding beAt
-be-past zero s at h = refl
-be-past (suc k) s at h =
-    let z : getD s (at + k) 0 ≡ 0 = List·getD-eq-default s 0 (omega arith) in
-    omega (arith, be-past k s at h, z)
 
 -- one byte more
 pub more-lt : (i n b : ℕ) → n < 2 ^ (8 * i) → b < 256 → n * 256 + b < 2 ^ (8 * (i + 1))
@@ -44,6 +36,17 @@ be-lt (suc k) s at h = subst (λ (j : ℕ). beAt (suc k) s at < 2 ^ (8 * j)) (ad
 -- a number of fewer than j bytes is below that of j
 pub small : (j : ℕ) {i n : ℕ} → n < 2 ^ (8 * i) → i ≤ j → n < 2 ^ (8 * j)
 small j {i} {n} h g = lt-of-lt-of-le h (pow-mono {i = 8 * i} {j = 8 * j} (omega arith))
+
+-- past the end there is nothing but zeros: m bytes that are there, and j more
+pub be-zeros : (m j : ℕ) (s : List ℕ) (at : ℕ) → length s ≤ at + m → beAt (m + j) s at ≡ beAt m s at * 2 ^ (8 * j)
+be-zeros m zero s at h = let e : m + 0 ≡ m = omega arith in ap (λ (k : ℕ). beAt k s at) e ∙ omega arith
+be-zeros m (suc j) s at h =
+    let e : m + suc j ≡ m + j + 1 = omega arith in
+    let z : getD s (at + (m + j)) 0 ≡ 0 = List·getD-eq-default s 0 (omega arith) in
+    let p : 8 * suc j ≡ 8 * j + 8 = omega arith in
+    ap (λ (k : ℕ). beAt k s at) e
+    ∙ be-more (m + j) s at
+    ∙ rw (z, be-zeros m j s at h, p, pow-add) (omega (arith, mul-assoc (beAt m s at) (2 ^ (8 * j)) 256))
 
 -- ---- two's complement, over the field's w bits and the machine's width W
 

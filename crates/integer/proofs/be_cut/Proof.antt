@@ -1,79 +1,55 @@
--- `be_cut` meets its contract: the loop's number is that of the bytes passed.
-use Prim.Native.Nat.{ℕ, _+_, _-_, _*_, _^_, _<_, _≤_}
-use mathlib.Core.Path.{_≡_, refl, sym, subst}
-use native.Mathlib.Omega.{arith}
-use native.Mathlib.Nat.{lt-of-lt-of-le}
+-- `be_cut` meets its contract: a byte past the end counts as 0.
 use borrow.Author.Needs.{needs}
+use Prim.Native.Nat.{ℕ, _+_, _-_, _*_, _%_, _^_, _<_, _≤_}
+use mathlib.Core.Path.{_≡_, sym, ap, subst, _∙_}
+use native.Mathlib.Omega.{arith}
+use native.Mathlib.Nat.{mod-eq-of-lt}
 use lib.ListN.{length}
-use lib.Pow.{pow-mono, pow-pos}
+use lib.Pow.{pow-pos}
 use Rattle.integer.specs.Fields.{beAt}
-use Rattle.integer.proofs.Width.{be-past, be-more, more-lt, small}
+use Rattle.integer.proofs.Width.{be-zeros, be-lt, small}
 use Rattle.integer.proofs.be_cut.Statement.{statement}
 use Rattle.integer.proofs.be_cut.Tie as tie
 
-abbrev Inv-loop : tie.InvT-loop
-Inv-loop «data» offset k n₀ i₀ n i = (i ≤ k) × (n ≡ beAt i «data» offset) × (n < 2 ^ (8 * i))
-
-abbrev μ-loop : tie.MeasureT-loop
-μ-loop «data» offset k n₀ i₀ n i = k - i
-
-returns : tie.Need-returns Inv-loop μ-loop
+returns : tie.Need-returns
+unfolding beAt
 returns c =
     let a = c .before .before .args in
-    (sym (be-past (a .k) (a .«data» .now) (a .offset) (c .if1 .taken)), pow-pos (8 * a .k))
+    let e : 0 + a .k ≡ a .k = omega arith in
+    (sym (ap (λ (j : ℕ). beAt j (a .«data» .now) (a .offset)) (sym e) ∙ be-zeros 0 (a .k) (a .«data» .now) (a .offset) (omega arith) ∙ omega arith), pow-pos (8 * a .k))
 
-loop-holds : tie.Need-loop-holds Inv-loop μ-loop
-unfolding beAt
-loop-holds c = search needs
+sub-there : tie.Need-sub-there
+sub-there c = search needs
 
-add-byte-at : tie.Need-add-byte-at Inv-loop μ-loop
-add-byte-at c = omega arith
+be-requires : tie.Need-be-requires
+be-requires c κs = search needs
 
-byte-at-requires : tie.Need-byte-at-requires Inv-loop μ-loop
-byte-at-requires c κs = search needs
+sub-result : tie.Need-sub-result
+sub-result c = search needs
 
-mul-n : tie.Need-mul-n Inv-loop μ-loop
-mul-n c = omega (arith, small 3 (c .before .before .loop .inv .2) (omega arith))
+mul-result : tie.Need-mul-result
+mul-result c = search needs
 
-cast-n : tie.Need-cast-n Inv-loop μ-loop
-cast-n c = search needs
+cast-result : tie.Need-cast-result
+cast-result c = search needs
 
-add-n : tie.Need-add-n Inv-loop μ-loop
-add-n c = omega (arith, small 3 (c .before .before .loop .inv .2) (omega arith), c .byte-at .ok)
+shl-result : tie.Need-shl-result
+shl-result c = search needs
 
-add-i : tie.Need-add-i Inv-loop μ-loop
-add-i c = omega arith
-
-loop-less : tie.Need-loop-less Inv-loop μ-loop
-loop-less c = omega arith
-
-loop-again : tie.Need-loop-again Inv-loop μ-loop
-loop-again c =
-    let a = c .before .before .before .before .before .args in
-    let l = c .before .before .loop in
-    (omega arith, cc (be-more (l .i) (a .«data» .now) (a .offset)), more-lt (l .i) (l .n) (c .byte-at .result) (l .inv .2) (search needs))
-
-returns-2 : tie.Need-returns-2 Inv-loop μ-loop
+returns-2 : tie.Need-returns-2
 returns-2 c =
-    let a = c .before .before .before .before .args in
-    let l = c .before .loop in
-    let e : l .i ≡ a .k = omega arith in
-    subst (λ (j : ℕ). (l .n ≡ beAt j (a .«data» .now) (a .offset)) × (l .n < 2 ^ (8 * j))) e (l .inv .1, l .inv .2)
+    let a = c .before .before .before .args in
+    let s = a .«data» .now in
+    let m = length s - a .offset in
+    let e : m + (a .k - m) ≡ a .k = omega arith in
+    let g = be-lt (a .k) s (a .offset) (λ i. c .before .before .shared-slice-known .given i .fits) in
+    let v : c .be .result * 2 ^ (8 * (a .k - m)) ≡ beAt (a .k) s (a .offset) =
+    ap (λ (n : ℕ). n * 2 ^ (8 * (a .k - m))) (c .be .ensures .0) ∙ sym (be-zeros m (a .k - m) s (a .offset) (omega arith)) ∙ ap (λ (j : ℕ). beAt j s (a .offset)) e in
+    let w : c .be .result * 2 ^ (8 * (a .k - m)) % 4294967296 ≡ beAt (a .k) s (a .offset) =
+    ap (λ (n : ℕ). n % 4294967296) v ∙ mod-eq-of-lt (small 4 g (omega arith)) in
+    (w, subst (λ (n : ℕ). n < 2 ^ (8 * a .k)) (sym w) g)
 
 pub be-cut-spec : {M : Type 1} → statement M
 be-cut-spec =
     tie.close
-    (tie.spec
-    Inv-loop
-    μ-loop
-    returns
-    loop-holds
-    add-byte-at
-    byte-at-requires
-    mul-n
-    cast-n
-    add-n
-    add-i
-    loop-less
-    loop-again
-    returns-2)
+    (tie.spec returns sub-there be-requires sub-result mul-result cast-result shl-result returns-2)
