@@ -1,6 +1,9 @@
 -- The laws of integer fields, each once over the width.
-pub mod Width
-pub mod Reading
+pub mod BigEndian
+pub mod Complement
 pub mod Bytes
-pub mod Stores
 pub mod Bias
+pub mod Stores
+pub mod Reading
+pub mod Back
+pub mod Unique

@@ -26,7 +26,7 @@ pub fn byte_at(data: &[u8], offset: usize) -> u8
 pub fn int16_at(data: &[u8], offset: usize) -> i16
     ensures { λ r. ⌜ r ≡ intAt 2 (now («data» .entry)) offset ⌝ }
 {
-    int_at(data, offset, 2, 0xFFFF) as i16
+    int_at(data, offset, 2, 0x8000) as i16
 }
 
 pub fn uint16_at(data: &[u8], offset: usize) -> u16
@@ -38,7 +38,7 @@ pub fn uint16_at(data: &[u8], offset: usize) -> u16
 pub fn int24_at(data: &[u8], offset: usize) -> i32
     ensures { λ r. ⌜ r ≡ intAt 3 (now («data» .entry)) offset ⌝ }
 {
-    int_at(data, offset, 3, 0xFF_FFFF)
+    int_at(data, offset, 3, 0x80_0000)
 }
 
 pub fn uint24_at(data: &[u8], offset: usize) -> u32
@@ -50,7 +50,7 @@ pub fn uint24_at(data: &[u8], offset: usize) -> u32
 pub fn int32_at(data: &[u8], offset: usize) -> i32
     ensures { λ r. ⌜ r ≡ intAt 4 (now («data» .entry)) offset ⌝ }
 {
-    int_at(data, offset, 4, 0xFFFF_FFFF)
+    int_at(data, offset, 4, 0x8000_0000)
 }
 
 pub fn uint32_at(data: &[u8], offset: usize) -> u32
@@ -190,17 +190,13 @@ pub fn need_at(offset: usize, width: usize) -> usize
     }
 }
 
-// The signed number of k bytes; top is the largest number of that many bytes.
-fn int_at(data: &[u8], offset: usize, k: usize, top: u32) -> i32
-    requires { ⌜ (0 < k) × (k ≤ 4) × (top ≡ 2 ^ (8 * k) - 1) ⌝ }
+// The signed number of k bytes; half is 2 ^ (8k - 1). No branch: it compiles to a sign extension.
+fn int_at(data: &[u8], offset: usize, k: usize, half: u64) -> i32
+    requires { ⌜ (0 < k) × (k ≤ 4) × (half ≡ 2 ^ (8 * k - 1)) ⌝ }
     ensures { λ r. ⌜ r ≡ intAt k (now («data» .entry)) offset ⌝ }
 {
-    let raw = be_at(data, offset, k);
-    if raw <= top / 2 {
-        raw as i32
-    } else {
-        -1 - (top - raw) as i32
-    }
+    let raw = be_at(data, offset, k) as u64;
+    (((raw + half) % (2 * half)) as i64 - half as i64) as i32
 }
 
 // The big-endian number of k bytes.

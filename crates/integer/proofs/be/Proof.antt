@@ -5,7 +5,7 @@ use mathlib.Core.Path.{_≡_, subst}
 use native.Mathlib.Omega.{arith}
 use lib.ListN.{getD}
 use Rattle.integer.specs.Fields.{beAt}
-use Rattle.integer.proofs.Width.{be-more, more-lt, small}
+use Rattle.integer.proofs.BigEndian.{be-more, more-lt, small}
 use Rattle.integer.proofs.be.Statement.{statement}
 use Rattle.integer.proofs.be.Tie as tie
 

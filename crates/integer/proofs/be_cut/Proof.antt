@@ -7,7 +7,7 @@ use native.Mathlib.Nat.{mod-eq-of-lt}
 use lib.ListN.{length}
 use lib.Pow.{pow-pos}
 use Rattle.integer.specs.Fields.{beAt}
-use Rattle.integer.proofs.Width.{be-zeros, be-lt, small}
+use Rattle.integer.proofs.BigEndian.{be-zeros, be-lt, small}
 use Rattle.integer.proofs.be_cut.Statement.{statement}
 use Rattle.integer.proofs.be_cut.Tie as tie
 

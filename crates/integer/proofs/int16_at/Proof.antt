@@ -8,7 +8,8 @@ use mir.Syntax.{w16, w32}
 use mir.Val.{SFits}
 use mir.ValLaws.{toZ-ofZ}
 use Rattle.integer.specs.Fields.{beAt, intAt}
-use Rattle.integer.proofs.Width.{be-lt, signed-fits}
+use Rattle.integer.proofs.BigEndian.{be-lt}
+use Rattle.integer.proofs.Complement.{signed-fits}
 use Rattle.integer.proofs.int16_at.Statement.{statement}
 use Rattle.integer.proofs.int16_at.Tie as tie
 
