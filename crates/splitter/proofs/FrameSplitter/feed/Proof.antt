@@ -1,0 +1,75 @@
+-- `FrameSplitter::feed` meets its contract: what its callees ensure, put together by the laws of `feedRule`.
+-- Assumes nothing.
+use mathlib.Core.Path.{_≡_, sym, _∙_}
+use mathlib.Core.Bool.{true, false}
+use Prim.Native.Nat.{_<_, _≤_}
+use native.Mathlib.Omega.{arith}
+use lib.ListN.{length}
+use Rattle.splitter.specs.Feed.{isBad, startIn, firstFrom}
+use Rattle.splitter.proofs.Laws.{not-bad, feed-bad, feed-ends, feed-goes-on}
+use borrow.Author.Needs.{needs}
+use Rattle.splitter.proofs.FrameSplitter.feed.Statement.{statement}
+use Rattle.splitter.proofs.FrameSplitter.feed.Tie as tie
+
+bad-requires : tie.Need-bad-requires
+bad-requires c κs = search needs
+
+returns : tie.Need-returns
+returns c = sym (feed-bad _ _ _ (sym (c .before .bad .ensures) ∙ c .if1 .taken))
+
+start-requires : tie.Need-start-requires
+start-requires c κs = search needs
+
+find-requires : tie.Need-find-requires
+find-requires c κs = search needs
+
+add-closes : tie.Need-add-closes
+add-closes c = search needs
+
+closes-requires : tie.Need-closes-requires
+closes-requires c κs =
+    let e = c .before .before .before .before in
+    let b = not-bad (e .before .before .before .before .args .self) _ (sym (e .before .bad .ensures) ∙ e .if1 .left) in
+    (b, omega arith)
+
+stays-requires : tie.Need-stays-requires
+stays-requires c κs =
+    let e = c .before .before .before .before in
+    let b = not-bad (e .before .before .before .before .args .self) _ (sym (e .before .bad .ensures) ∙ e .if1 .left) in
+    (b, omega arith)
+
+same-length : tie.Need-same-length
+same-length c = search needs
+
+returns-2 : tie.Need-returns-2
+returns-2 c =
+    let t = c .before .before .before .before in
+    let e = t .before .before .before in
+    c .before .before .closes .ensures
+    ∙ feed-ends _ _ _ _ _ (sym (e .before .bad .ensures) ∙ e .if1 .left) (t .before .before .start .ensures .0) (t .before .find .ensures .0) (t .if2 .taken)
+
+same-length-2 : tie.Need-same-length-2
+same-length-2 c = search needs
+
+returns-3 : tie.Need-returns-3
+returns-3 c =
+    let t = c .before .before .before .before in
+    let e = t .before .before .before in
+    c .before .before .stays .ensures
+    ∙ feed-goes-on _ _ _ _ _ (sym (e .before .bad .ensures) ∙ e .if1 .left) (t .before .before .start .ensures .0) (t .before .find .ensures .0) (t .if2 .left)
+
+pub feed-spec : {M : Type 1} → statement M
+feed-spec =
+    tie.close
+    (tie.spec
+    bad-requires
+    returns
+    start-requires
+    find-requires
+    add-closes
+    closes-requires
+    stays-requires
+    same-length
+    returns-2
+    same-length-2
+    returns-3)

@@ -1,0 +1,8 @@
+-- The laws of the splitter's rule, and its theorems.
+pub mod Laws
+pub mod Line
+pub mod Calls
+pub mod Stream
+pub mod Rust
+pub mod One
+pub mod Ends

@@ -1,0 +1,44 @@
+-- `splitter::find` meets its contract. The loop's invariant: what is sought from `from` on is what is sought from i on.
+-- Assumes nothing.
+use mathlib.Core.Path.{_≡_, refl, sym, _∙_}
+use Prim.Native.Nat.{ℕ, _+_, _-_, _≤_, _<_}
+use native.Mathlib.Omega.{arith}
+use lib.ListN.{length}
+use Rattle.splitter.specs.Feed.{firstFrom}
+use Rattle.splitter.proofs.Laws.{first-hit, first-miss, first-end}
+use Rattle.splitter.proofs.find.Statement.{statement}
+use Rattle.splitter.proofs.find.Tie as tie
+
+abbrev Inv-loop : tie.InvT-loop
+Inv-loop a from b i₀ i = (i ≤ length a) × (firstFrom b from a ≡ firstFrom b i a)
+
+abbrev μ-loop : tie.MeasureT-loop
+μ-loop a from b i₀ i = length a - i
+
+loop-holds : tie.Need-loop-holds Inv-loop μ-loop
+loop-holds c = (c .pre, refl)
+
+shared-slice-read-if1 : tie.Need-shared-slice-read-if1 Inv-loop μ-loop
+shared-slice-read-if1 c = omega arith
+
+returns : tie.Need-returns Inv-loop μ-loop
+returns c =
+    let l = c .before .before .before in
+    (sym (l .loop .inv .1 ∙ first-hit _ _ _ (c .before .before .loop-test .taken) (c .if1 .taken)), omega arith)
+
+add-i : tie.Need-add-i Inv-loop μ-loop
+add-i c = omega arith
+
+loop-less : tie.Need-loop-less Inv-loop μ-loop
+loop-less c = omega arith
+
+loop-again : tie.Need-loop-again Inv-loop μ-loop
+loop-again c =
+    let l = c .before .before .before in
+    (omega arith, l .loop .inv .1 ∙ first-miss _ _ _ (c .before .before .loop-test .taken) (c .if1 .left))
+
+returns-2 : tie.Need-returns-2 Inv-loop μ-loop
+returns-2 c = (sym (c .before .loop .inv .1 ∙ first-end _ _ _ (omega arith)), omega arith)
+
+pub find-spec : {M : Type 1} → statement M
+find-spec = tie.close (tie.spec Inv-loop μ-loop loop-holds shared-slice-read-if1 returns add-i loop-less loop-again returns-2)

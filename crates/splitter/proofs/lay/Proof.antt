@@ -1,0 +1,58 @@
+-- `splitter::lay` meets its contract. The loop's invariant: dst is its first self with the first i bytes of src pasted in.
+-- Assumes nothing.
+use mathlib.Core.Path.{_≡_, refl, sym, ap, _∙_}
+use mathlib.Core.List.{List}
+use Prim.Native.Nat.{ℕ, _+_, _-_, _≤_, _<_}
+use native.Mathlib.Numerals.{add-one}
+use native.Mathlib.Omega.{arith}
+use lib.ListN.{length, take, drop, getD, set, length-set}
+use lib.Seq.{paste, paste-zero, paste-suc, take-length}
+use Rattle.splitter.proofs.Laws.{paste-all}
+use Rattle.splitter.proofs.lay.Statement.{statement}
+use Rattle.splitter.proofs.lay.Tie as tie
+
+abbrev Inv-loop : tie.InvT-loop
+Inv-loop dst₀ at src i₀ dst i = (i ≤ length src) × ((dst ≡ paste dst₀ at src i) × (length dst ≡ length dst₀))
+
+abbrev μ-loop : tie.MeasureT-loop
+μ-loop dst₀ at src i₀ dst i = length src - i
+
+loop-holds : tie.Need-loop-holds Inv-loop μ-loop
+loop-holds c = (omega arith, (paste-zero (c .args .dst .now) (c .args .at) (c .args .src .now), refl))
+
+shared-slice-read-dst : tie.Need-shared-slice-read-dst Inv-loop μ-loop
+shared-slice-read-dst c = omega arith
+
+add-dst : tie.Need-add-dst Inv-loop μ-loop
+add-dst c = omega arith
+
+slice-write-dst : tie.Need-slice-write-dst Inv-loop μ-loop
+slice-write-dst c = omega arith
+
+add-i : tie.Need-add-i Inv-loop μ-loop
+add-i c = omega arith
+
+loop-less : tie.Need-loop-less Inv-loop μ-loop
+loop-less c = omega arith
+
+loop-again : tie.Need-loop-again Inv-loop μ-loop
+loop-again c =
+    let l = c .before .before in
+    let a = l .before .args in (
+      omega arith,
+      (
+        rw (l .loop .inv .1 .0, add-one (l .loop .i)) (paste-suc (a .dst .now) (a .at) (a .src .now) (l .loop .i) 0 (omega arith) (omega arith)),
+        simp length-set (omega arith),
+      ),
+    )
+
+same-length : tie.Need-same-length Inv-loop μ-loop
+same-length c = c .before .loop .inv .1 .1
+
+returns : tie.Need-returns Inv-loop μ-loop
+returns c = c .before .loop .inv .1 .0 ∙ paste-all (c .before .before .args .dst .now) (c .before .before .args .at) (c .before .before .args .src .now) (c .before .loop .i) (omega arith)
+
+pub lay-spec : {M : Type 1} → statement M
+lay-spec =
+    tie.close
+    (tie.spec Inv-loop μ-loop loop-holds shared-slice-read-dst add-dst slice-write-dst add-i loop-less loop-again same-length returns)

@@ -1,0 +1,22 @@
+-- `splitter::start` meets its contract: at each `return` the tests that led there say which case of `startIn` holds.
+-- Assumes nothing.
+use borrow.Author.Needs.{needs}
+use native.Mathlib.Omega.{arith}
+use borrow.Author.Tests.{eq-eqb, ne-eqb}
+use Rattle.splitter.proofs.start.Statement.{statement}
+use Rattle.splitter.proofs.start.Tie as tie
+
+returns : tie.Need-returns
+returns c = (simp (c .if1 .taken), omega arith)
+
+returns-2 : tie.Need-returns-2
+returns-2 c = (simp (c .before .before .if1 .left, ne-eqb _ _ (c .if2 .taken)), omega arith)
+
+find-requires : tie.Need-find-requires
+find-requires c κs = search needs
+
+returns-3 : tie.Need-returns-3
+returns-3 c = (simp (c .before .before .before .if1 .left, eq-eqb _ _ (c .before .if2 .left)) (c .find .ensures .0), c .find .ensures .1)
+
+pub start-spec : {M : Type 1} → statement M
+start-spec = tie.close (tie.spec returns returns-2 find-requires returns-3)

@@ -1,0 +1,230 @@
+// The splitter: cuts a byte stream that comes in chunks into frames F0 .. F1, one event a call.
+// However the stream is cut, the frames are the Rust's; those longer than the hold buffer are answered Overlong (proofs/Stream).
+ghost use mathlib.Core.Path.{_≡_};
+ghost use Prim.Native.Nat.{_+_, _-_, _≤_, _<_};
+ghost use lib.ListN.{length};
+ghost use Rattle.splitter.specs.Feed.{new, isBad, isKept, firstFrom, startIn, laid, shown, ends, goesOn, feedRule};
+ghost use Rattle.splitter.specs.View.{viewRule, viewAt};
+use error::WireError;
+
+const START: u8 = 0xF0;
+
+const END: u8 = 0xF1;
+
+// The state between two calls: how many bytes of an open frame the hold buffer has, or that
+// the open frame is longer than that buffer and is skipped up to its end.
+pub struct FrameSplitter {
+    pub count: usize,
+    pub skipping: bool,
+}
+
+// Where a frame lies: len bytes from start on, in the hold buffer or in the chunk.
+pub struct Place {
+    pub in_hold: bool,
+    pub start: usize,
+    pub len: usize,
+}
+
+pub enum Event {
+    More,
+    Frame(Place),
+    Overlong,
+    Err(WireError),
+}
+
+// What a call answers, how many bytes of the chunk it took, and the splitter for the next call.
+pub struct Fed {
+    pub event: Event,
+    pub taken: usize,
+    pub splitter: FrameSplitter,
+}
+
+impl FrameSplitter {
+    pub fn new() -> FrameSplitter
+        ensures { λ r. ⌜ r ≡ new ⌝ }
+    {
+        FrameSplitter {
+            count: 0,
+            skipping: false,
+        }
+    }
+
+    pub fn feed(self, hold: &mut [u8], chunk: &[u8]) -> Fed
+        ensures { λ r. ⌜ shown r (now (hold .exit)) ≡ feedRule self (now (hold .entry)) (now (chunk .entry)) ⌝ }
+    {
+        let room = hold.len();
+        if bad(self, room) {
+            return Fed {
+                event: Event::Err(WireError::BadState),
+                taken: 0,
+                splitter: self,
+            };
+        }
+        let from = start(self, chunk);
+        let end = find(chunk, from, END);
+        if end < chunk.len() {
+            closes(self, hold, chunk, from, end + 1)
+        } else {
+            stays(self, hold, chunk, from)
+        }
+    }
+}
+
+// A state that no call gives.
+fn bad(s: FrameSplitter, room: usize) -> bool
+    ensures { λ r. ⌜ r ≡ isBad s room ⌝ }
+{
+    let count = s.count;
+    if room < count {
+        return true;
+    }
+    if s.skipping {
+        return count != 0;
+    }
+    false
+}
+
+// Where the bytes of the frame that is open, or opens here, start in the chunk.
+fn start(s: FrameSplitter, chunk: &[u8]) -> usize
+    ensures { λ r. ⌜ (r ≡ startIn s (now (chunk .entry))) × (r ≤ length (now (chunk .entry))) ⌝ }
+{
+    if s.skipping {
+        return 0;
+    }
+    if s.count != 0 {
+        return 0;
+    }
+    find(chunk, 0, START)
+}
+
+// Whether the open frame with added more bytes is no longer than the hold buffer.
+fn kept(s: FrameSplitter, room: usize, added: usize) -> bool
+    requires { ⌜ s .count ≤ room ⌝ }
+    ensures { λ r. ⌜ r ≡ isKept s room added ⌝ }
+{
+    if s.skipping {
+        return false;
+    }
+    added <= room - s.count
+}
+
+// The frame ends in the chunk, just before index to.
+fn closes(s: FrameSplitter, hold: &mut [u8], chunk: &[u8], from: usize, to: usize) -> Fed
+    requires { ⌜ s .count ≤ length (now hold) ⌝ }
+    requires { ⌜ (from ≤ to) × (to ≤ length (now chunk)) ⌝ }
+    ensures { λ r. ⌜ shown r (now (hold .exit)) ≡ ends s (now (hold .entry)) (now (chunk .entry)) from to ⌝ }
+{
+    let count = s.count;
+    if !kept(s, hold.len(), to - from) {
+        return ended(Event::Overlong, to);
+    }
+    if count == 0 {
+        return ended(
+            Event::Frame(Place {
+                in_hold: false,
+                start: from,
+                len: to - from,
+            }),
+            to,
+        );
+    }
+    lay(hold, count, &chunk[from..to]);
+    ended(
+        Event::Frame(Place {
+            in_hold: true,
+            start: 0,
+            len: count + (to - from),
+        }),
+        to,
+    )
+}
+
+// After a frame's end the splitter is fresh.
+fn ended(event: Event, taken: usize) -> Fed
+    ensures { λ r. ⌜ r ≡ record { event = event; taken = taken; splitter = new } ⌝ }
+{
+    Fed {
+        event,
+        taken,
+        splitter: FrameSplitter::new(),
+    }
+}
+
+// The frame, if any, does not end in the chunk.
+fn stays(s: FrameSplitter, hold: &mut [u8], chunk: &[u8], from: usize) -> Fed
+    requires { ⌜ s .count ≤ length (now hold) ⌝ }
+    requires { ⌜ from ≤ length (now chunk) ⌝ }
+    ensures { λ r. ⌜ shown r (now (hold .exit)) ≡ goesOn s (now (hold .entry)) (now (chunk .entry)) from (length (now (chunk .entry))) ⌝ }
+{
+    let count = s.count;
+    let n = chunk.len();
+    if !kept(s, hold.len(), n - from) {
+        return Fed {
+            event: Event::More,
+            taken: n,
+            splitter: FrameSplitter {
+                count: 0,
+                skipping: true,
+            },
+        };
+    }
+    lay(hold, count, &chunk[from..n]);
+    Fed {
+        event: Event::More,
+        taken: n,
+        splitter: FrameSplitter {
+            count: count + (n - from),
+            skipping: false,
+        },
+    }
+}
+
+// The index of the first b of a at or after from, or a's length.
+fn find(a: &[u8], from: usize, b: u8) -> usize
+    requires { ⌜ from ≤ length (now a) ⌝ }
+    ensures { λ r. ⌜ (r ≡ firstFrom b from (now (a .entry))) × (r ≤ length (now (a .entry))) ⌝ }
+{
+    let mut i = from;
+    while i < a.len() {
+        if a[i] == b {
+            return i;
+        }
+        i += 1;
+    }
+    i
+}
+
+// Writes src over dst from index at on.
+fn lay(dst: &mut [u8], at: usize, src: &[u8])
+    requires { ⌜ at + length (now src) ≤ length (now dst) ⌝ }
+    ensures { λ _. ⌜ now (dst .exit) ≡ laid (now (dst .entry)) at (now (src .entry)) ⌝ }
+{
+    let mut i = 0;
+    while i < src.len() {
+        dst[at + i] = src[i];
+        i += 1;
+    }
+}
+
+// The bytes at a place: a part of the chunk or of the hold, or the chunk's empty start where the place does not fit.
+pub fn view<'a>(chunk: &'a [u8], hold: &'a [u8], place: Place) -> &'a [u8]
+    ensures { λ r. ⌜ now r ≡ viewRule (now (chunk .entry)) (now (hold .entry)) place ⌝ }
+    ensures { λ r. ⌜ r .ptr ≡ viewAt (chunk .entry) (hold .entry) place ⌝ }
+{
+    let from = place.start;
+    let len = place.len;
+    if place.in_hold {
+        if from <= hold.len() {
+            if len <= hold.len() - from {
+                return &hold[from..from + len];
+            }
+        }
+        return &chunk[0..0];
+    }
+    if from <= chunk.len() {
+        if len <= chunk.len() - from {
+            return &chunk[from..from + len];
+        }
+    }
+    &chunk[0..0]
+}
