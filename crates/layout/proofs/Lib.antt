@@ -1,0 +1,3 @@
+-- What the proofs of every decoder use.
+pub mod Held
+pub mod Lengths

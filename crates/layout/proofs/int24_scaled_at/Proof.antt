@@ -1,0 +1,22 @@
+-- `int24_scaled_at` meets its contract.
+use borrow.Author.Needs.{needs}
+use mathlib.Core.Path.{ap}
+use mir.Syntax.{w32}
+use Rattle.integer.specs.Fields.{scaledBy}
+use Rattle.layout.proofs.Held.{held}
+use Rattle.layout.proofs.int24_scaled_at.Statement.{statement}
+use Rattle.layout.proofs.int24_scaled_at.Tie as tie
+
+int24-at-requires : tie.Need-int24-at-requires
+int24-at-requires c κs = search needs
+
+int-to-float-result : tie.Need-int-to-float-result
+int-to-float-result c = search needs
+
+returns : tie.Need-returns
+returns c =
+    let r = c .before .int24-at in
+    ap (scaledBy (c .before .before .before .args .scale)) (held w32 (r .ensures) (r .ok))
+
+pub int24-scaled-at-spec : {M : Type 1} → statement M
+int24-scaled-at-spec = tie.close (tie.spec int24-at-requires int-to-float-result returns)

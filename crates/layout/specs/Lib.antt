@@ -1,0 +1,2 @@
+-- What a decoder's table of fields is written in.
+pub mod Layout

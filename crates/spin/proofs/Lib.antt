@@ -1,0 +1,2 @@
+-- The replies of EF and E9 are unique.
+pub mod One

@@ -1,0 +1,15 @@
+-- `SpinResult::decode` meets its contract, on either side of the least length.
+-- Assumes nothing.
+use Rattle.layout.proofs.Lengths.{short, whole}
+use Rattle.spin.specs.Tables.{spinOf}
+use Rattle.spin.proofs.SpinResult.decode.Statement.{statement}
+use Rattle.spin.proofs.SpinResult.decode.Tie as tie
+
+returns : tie.Need-returns
+returns c = short spinOf 0xEF 138 (c .before .before .before .args .payload .now) (c .before .if1 .taken) (c .zero-spin .ensures)
+
+returns-2 : tie.Need-returns-2
+returns-2 c = whole spinOf 0xEF 138 (c .before .before .before .args .payload .now) (c .before .if1 .left) (c .read-spin .ensures)
+
+pub decode-spec : {M : Type 1} → statement M
+decode-spec = tie.close (tie.spec (λ c κs. tt) returns (λ c κs. tt) returns-2)

@@ -1,0 +1,2 @@
+-- The tables of EF and E9.
+pub mod Tables
