@@ -1,13 +1,13 @@
 -- Two's complement over w bits: the number of bits, the bits of a number, and that each undoes the other.
--- `wrapped` is what `int_at` computes, on a machine of any width W. Assumes nothing.
+-- `moved` is how `int_at` makes the number of fewer bits. Assumes nothing.
 use Prim.Native.Nat.{ℕ, zero, suc, _+_, _-_, _*_, _/_, _%_, _^_, _<_, _≤_}
-use mathlib.Core.Path.{_≡_, sym, ap, subst, _∙_}
+use mathlib.Core.Path.{_≡_, refl, sym, ap, subst, _∙_}
 use mathlib.Core.Bool.{Bool, cond}
 use native.Mathlib.Omega.{arith}
-use native.Mathlib.Nat.{pow-suc, add-mul, lt-of-lt-of-le, mod-lt, mod-eq-of-lt, mod-eq-sub-mod}
-use lib.Pow.{pow-pos, pow-mono, shr-lt, split, low, mod-mod-pow, ones-split}
+use native.Mathlib.Nat.{pow-suc, add-mul, mul-le-mul-right, mul-lt-mul-of-pos-right, lt-of-lt-of-le, mod-lt, mod-eq-of-lt}
+use lib.Pow.{pow-pos, pow-add, pow-mono, shl-lt, shl-shr, shr-lt, split, high, low, mod-mod-pow, ones-split}
 use lib.IntN.{ℤ, pos, negsuc, subℕ, _-ℤ_}
-use lib.Signed.{mag}
+use lib.Signed.{mag, shrZ}
 use mir.Syntax.{Width}
 use mir.Val.{SFits, toZ, hbits}
 use mir.ValLaws.{toZ-pos}
@@ -42,30 +42,32 @@ signed-fits W w n z k g =
     let m : 2 ^ w - 1 - n < 2 ^ (w - 1) = omega (arith, halves w z) in
     subst (λ (z : ℤ). SFits W z) (sym (high-is w n h g)) (record { sfits = lt-of-lt-of-le m (pow-mono k) }))
 
--- what the code does: half of 2 ^ w added, taken off again after the turn
-pub wrapped : (W : Width) (w n h : ℕ) → 0 < w → h ≡ 2 ^ (w - 1) → h + h ≤ 2 ^ hbits W → n < 2 ^ w → toZ W ((n + h) % (2 * h)) -ℤ toZ W h ≡ signed w n
-wrapped W w n h z e k g =
-    let p : 0 < 2 * h = omega (arith, pow-pos (w - 1)) in
-    let d : 2 ^ w ≡ 2 * h = omega (arith, halves w z) in
-    ap (λ (y : ℤ). y -ℤ toZ W h) (toZ-pos W ((n + h) % (2 * h)) (omega (arith, mod-lt (n + h) p)))
-    ∙ ap (λ (y : ℤ). pos ((n + h) % (2 * h)) -ℤ y) (toZ-pos W h (omega arith))
-    ∙ by-lt n h
-    (λ l.
-    let m : (n + h) % (2 * h) ≡ n + h = mod-eq-of-lt (omega arith) in
-    let o : n + h - h ≡ n = omega arith in
-    ap (λ (y : ℕ). pos y -ℤ pos h) m ∙ above (n + h) h (omega arith) ∙ ap pos o ∙ sym (low-is w n (omega arith)))
-    (λ l.
-    let m : (n + h) % (2 * h) ≡ n - h = mod-eq-sub-mod {n = n + h} {m = 2 * h} (omega arith) ∙ let o : n + h - 2 * h ≡ n - h = omega arith in ap (λ (y : ℕ). y % (2 * h)) o ∙ mod-eq-of-lt (omega arith) in
-    let o : h - suc (n - h) ≡ 2 ^ w - 1 - n = omega arith in
-    ap (λ (y : ℕ). pos y -ℤ pos h) m ∙ under (n - h) h (omega arith) ∙ ap negsuc o ∙ sym (high-is w n (omega arith) g))
-  where
-    above : (a b : ℕ) → b ≤ a → pos a -ℤ pos b ≡ pos (a - b)
-    above a zero l = let o : a + 0 ≡ a - 0 = omega arith in ap pos o
-    above a (suc b) l = ap (λ (t : Bool). cond t (negsuc (suc b - suc a)) (pos (a - suc b))) (le-ltb a (suc b) l)
+-- moved up by d bits and down again, it is the number of fewer bits
+pub moved : (w d n : ℕ) → 0 < w → n < 2 ^ w → shrZ (signed (w + d) (n * 2 ^ d)) (2 ^ d) ≡ signed w n
+moved w d n o g =
+    let e : w - 1 + d ≡ w + d - 1 = omega arith in
+    let half : 2 ^ (w + d - 1) ≡ 2 ^ (w - 1) * 2 ^ d = ap (λ (j : ℕ). 2 ^ j) (sym e) ∙ pow-add 2 (w - 1) d in
+    by-lt n (2 ^ (w - 1))
+    (λ h.
+    let l : n * 2 ^ d < 2 ^ (w + d - 1) = rw half (mul-lt-mul-of-pos-right h (pow-pos d)) in
+    ap (λ (z : ℤ). shrZ z (2 ^ d)) (low-is (w + d) (n * 2 ^ d) l) ∙ ap pos (shl-shr n d) ∙ sym (low-is w n h))
+    (λ h.
+    let p = 2 ^ w - 1 - n in
+    let q : p + n ≡ 2 ^ w - 1 = omega arith in
+    let s : p * 2 ^ d + n * 2 ^ d ≡ (2 ^ w - 1) * 2 ^ d = sym (add-mul p n (2 ^ d)) ∙ ap (λ (x : ℕ). x * 2 ^ d) q in
+    let r : 2 ^ (w + d) - 1 - n * 2 ^ d ≡ p * 2 ^ d + (2 ^ d - 1) = omega (arith, ones-split w d, s) in
+    let l : 2 ^ (w + d - 1) ≤ n * 2 ^ d = rw half (mul-le-mul-right (2 ^ d) h) in
+    ap (λ (z : ℤ). shrZ z (2 ^ d)) (high-is (w + d) (n * 2 ^ d) l (shl-lt w d g))
+    ∙ ap negsuc (ap (λ (x : ℕ). x / 2 ^ d) r ∙ high p d (omega (arith, pow-pos d)))
+    ∙ sym (high-is w n h g))
 
-    under : (a b : ℕ) → a < b → pos a -ℤ pos b ≡ negsuc (b - suc a)
-    under a zero l = absurd (let q : ⊥ = omega arith in q)
-    under a (suc b) l = ap (λ (t : Bool). cond t (negsuc (suc b - suc a)) (pos (a - suc b))) (lt-ltb a (suc b) l)
+-- what the code does in the upper half
+pub below : (W : Width) (n : ℕ) → n < 2 ^ hbits W → negsuc 0 -ℤ toZ W n ≡ negsuc n
+below W n h = ap (λ (z : ℤ). negsuc 0 -ℤ z) (toZ-pos W n h) ∙ less n
+  where
+    less : (n : ℕ) → negsuc 0 -ℤ pos n ≡ negsuc n
+    less zero = refl
+    less (suc n) = let e : suc (0 + n) ≡ suc n = omega arith in ap negsuc e
 
 -- ---- the w bits of a number
 

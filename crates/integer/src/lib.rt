@@ -5,7 +5,7 @@ ghost use Prim.Native.Nat.{ℕ, _+_, _-_, _*_, _^_, _<_, _≤_};
 ghost use lib.ListN.{length, getD};
 ghost use lib.Seq.{sets};
 ghost use Rattle.error.specs.Result.{toldUnit, toldI16, toldU16, toldI32, toldU32, toldF64};
-ghost use Rattle.integer.specs.Fields.{beAt, intAt, needAt, reading, scaledBy, bytesOf, unsigned, intBytes, writing, written};
+ghost use Rattle.integer.specs.Fields.{beAt, signed, intAt, needAt, reading, scaledBy, bytesOf, unsigned, intBytes, writing, written};
 use error::ResultF64;
 use error::ResultI16;
 use error::ResultI32;
@@ -26,7 +26,7 @@ pub fn byte_at(data: &[u8], offset: usize) -> u8
 pub fn int16_at(data: &[u8], offset: usize) -> i16
     ensures { λ r. ⌜ r ≡ intAt 2 (now («data» .entry)) offset ⌝ }
 {
-    int_at(data, offset, 2, 0x8000) as i16
+    int_at(data, offset, 2) as i16
 }
 
 pub fn uint16_at(data: &[u8], offset: usize) -> u16
@@ -38,7 +38,7 @@ pub fn uint16_at(data: &[u8], offset: usize) -> u16
 pub fn int24_at(data: &[u8], offset: usize) -> i32
     ensures { λ r. ⌜ r ≡ intAt 3 (now («data» .entry)) offset ⌝ }
 {
-    int_at(data, offset, 3, 0x80_0000)
+    int_at(data, offset, 3)
 }
 
 pub fn uint24_at(data: &[u8], offset: usize) -> u32
@@ -50,7 +50,7 @@ pub fn uint24_at(data: &[u8], offset: usize) -> u32
 pub fn int32_at(data: &[u8], offset: usize) -> i32
     ensures { λ r. ⌜ r ≡ intAt 4 (now («data» .entry)) offset ⌝ }
 {
-    int_at(data, offset, 4, 0x8000_0000)
+    int_at(data, offset, 4)
 }
 
 pub fn uint32_at(data: &[u8], offset: usize) -> u32
@@ -190,13 +190,24 @@ pub fn need_at(offset: usize, width: usize) -> usize
     }
 }
 
-// The signed number of k bytes; half is 2 ^ (8k - 1). No branch: it compiles to a sign extension.
-fn int_at(data: &[u8], offset: usize, k: usize, half: u64) -> i32
-    requires { ⌜ (0 < k) × (k ≤ 4) × (half ≡ 2 ^ (8 * k - 1)) ⌝ }
+// The signed number of k bytes: moved up to the sign bit of 32, and down again.
+fn int_at(data: &[u8], offset: usize, k: usize) -> i32
+    requires { ⌜ (0 < k) × (k ≤ 4) ⌝ }
     ensures { λ r. ⌜ r ≡ intAt k (now («data» .entry)) offset ⌝ }
 {
-    let raw = be_at(data, offset, k) as u64;
-    (((raw + half) % (2 * half)) as i64 - half as i64) as i32
+    let spare = 32 - 8 * k;
+    int_of(be_at(data, offset, k) << spare) >> spare
+}
+
+// The number of 32 bits.
+fn int_of(bits: u32) -> i32
+    ensures { λ r. ⌜ r ≡ signed 32 bits ⌝ }
+{
+    if bits < 0x8000_0000 {
+        bits as i32
+    } else {
+        -1 - (0xFFFF_FFFF - bits) as i32
+    }
 }
 
 // The big-endian number of k bytes.
