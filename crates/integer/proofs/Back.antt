@@ -1,7 +1,7 @@
 -- What was written reads back, every other field keeps its value, and what is read, written again, changes nothing.
 -- Each once over the width, at any place. Assumes nothing.
 use Prim.Native.Nat.{ℕ, zero, suc, _+_, _-_, _*_, _/_, _%_, _^_, _<_, _≤_}
-use mathlib.Core.Path.{_≡_, refl, sym, ap, subst, _∙_}
+use mathlib.Core.Path.{_≡_, refl, sym, ap, _∙_}
 use mathlib.Core.Bool.{Bool, true, false, cond}
 use mathlib.Core.List.{List, [], _∷_}
 use mathlib.Core.Logic.{_⊎_, inl, inr, ⊎-elim}
@@ -14,13 +14,12 @@ use lib.ListN.{length, getD, set, length-set}
 use lib.Pow.{pow-pos}
 use lib.Seq.{sets, length-sets, getD-set-same, getD-set-other, set-getD}
 use lib.Signed.{mag}
-use Rattle.error.proofs.Cases.{by-lt}
 use Rattle.error.specs.Refusal.{yes}
 use Rattle.integer.specs.Fields.{beAt, signed, intAt, bytesOf, unsigned, intBytes, reading, written}
 use Rattle.integer.proofs.BigEndian.{be-lt}
-use Rattle.integer.proofs.Bytes.{bytes-bits, length-bytes, length-int, bytes-low}
+use Rattle.integer.proofs.Bytes.{bytes-bits, length-bytes, bytes-low}
 use Rattle.integer.proofs.Complement.{unsigned-lt, signed-unsigned, unsigned-signed}
-use Rattle.integer.proofs.Reading.{reads, writes, no-room}
+use Rattle.integer.proofs.Reading.{reads, writes}
 
 -- ---- every other byte is kept
 

@@ -1,7 +1,7 @@
 // Integer fields: readers and writers at a place, big-endian and two's complement.
 // Too short is refused with 7, no room with 8; a refusal writes nothing.
 ghost use mathlib.Core.Path.{_≡_};
-ghost use Prim.Native.Nat.{ℕ, _+_, _-_, _*_, _^_, _<_, _≤_};
+ghost use Prim.Native.Nat.{_+_, _*_, _^_, _<_, _≤_};
 ghost use lib.ListN.{length, getD};
 ghost use lib.Seq.{sets};
 ghost use Rattle.error.specs.Result.{toldUnit, toldI16, toldU16, toldI32, toldU32, toldF64};
@@ -13,6 +13,19 @@ use error::ResultU16;
 use error::ResultU32;
 use error::ResultUnit;
 use error::WireError;
+
+// The kinds that refusal 7 names.
+const INT16: u8 = 1;
+
+const UINT16: u8 = 2;
+
+const INT24: u8 = 3;
+
+const UINT24: u8 = 4;
+
+const INT32: u8 = 5;
+
+const UINT32: u8 = 6;
 
 // ---- the field at a place, where a byte past the end counts as 0: for callers that tested the length
 
@@ -64,7 +77,7 @@ pub fn uint32_at(data: &[u8], offset: usize) -> u32
 pub fn read_int16(data: &[u8], offset: usize) -> ResultI16
     ensures { λ r. ⌜ toldI16 r ≡ reading 1 2 (intAt 2) (now («data» .entry)) offset ⌝ }
 {
-    match check_len(data, offset, 2, 1) {
+    match check_len(data, offset, 2, INT16) {
         ResultUnit::Ok => ResultI16::Ok(int16_at(data, offset)),
         ResultUnit::Err(e) => ResultI16::Err(e),
     }
@@ -73,7 +86,7 @@ pub fn read_int16(data: &[u8], offset: usize) -> ResultI16
 pub fn read_uint16(data: &[u8], offset: usize) -> ResultU16
     ensures { λ r. ⌜ toldU16 r ≡ reading 2 2 (beAt 2) (now («data» .entry)) offset ⌝ }
 {
-    match check_len(data, offset, 2, 2) {
+    match check_len(data, offset, 2, UINT16) {
         ResultUnit::Ok => ResultU16::Ok(uint16_at(data, offset)),
         ResultUnit::Err(e) => ResultU16::Err(e),
     }
@@ -82,7 +95,7 @@ pub fn read_uint16(data: &[u8], offset: usize) -> ResultU16
 pub fn read_int24(data: &[u8], offset: usize) -> ResultI32
     ensures { λ r. ⌜ toldI32 r ≡ reading 3 3 (intAt 3) (now («data» .entry)) offset ⌝ }
 {
-    match check_len(data, offset, 3, 3) {
+    match check_len(data, offset, 3, INT24) {
         ResultUnit::Ok => ResultI32::Ok(int24_at(data, offset)),
         ResultUnit::Err(e) => ResultI32::Err(e),
     }
@@ -91,7 +104,7 @@ pub fn read_int24(data: &[u8], offset: usize) -> ResultI32
 pub fn read_uint24(data: &[u8], offset: usize) -> ResultU32
     ensures { λ r. ⌜ toldU32 r ≡ reading 4 3 (beAt 3) (now («data» .entry)) offset ⌝ }
 {
-    match check_len(data, offset, 3, 4) {
+    match check_len(data, offset, 3, UINT24) {
         ResultUnit::Ok => ResultU32::Ok(uint24_at(data, offset)),
         ResultUnit::Err(e) => ResultU32::Err(e),
     }
@@ -100,7 +113,7 @@ pub fn read_uint24(data: &[u8], offset: usize) -> ResultU32
 pub fn read_int32(data: &[u8], offset: usize) -> ResultI32
     ensures { λ r. ⌜ toldI32 r ≡ reading 5 4 (intAt 4) (now («data» .entry)) offset ⌝ }
 {
-    match check_len(data, offset, 4, 5) {
+    match check_len(data, offset, 4, INT32) {
         ResultUnit::Ok => ResultI32::Ok(int32_at(data, offset)),
         ResultUnit::Err(e) => ResultI32::Err(e),
     }
@@ -109,7 +122,7 @@ pub fn read_int32(data: &[u8], offset: usize) -> ResultI32
 pub fn read_uint32(data: &[u8], offset: usize) -> ResultU32
     ensures { λ r. ⌜ toldU32 r ≡ reading 6 4 (beAt 4) (now («data» .entry)) offset ⌝ }
 {
-    match check_len(data, offset, 4, 6) {
+    match check_len(data, offset, 4, UINT32) {
         ResultUnit::Ok => ResultU32::Ok(uint32_at(data, offset)),
         ResultUnit::Err(e) => ResultU32::Err(e),
     }
@@ -179,7 +192,7 @@ pub fn write_uint32(buf: &mut [u8], offset: usize, val: u32) -> ResultUnit
 
 // ---- what they share
 
-// Place plus width, or the largest usize where that passes it.
+// The need of a field: place plus width, or the largest usize where that passes it.
 pub fn need_at(offset: usize, width: usize) -> usize
     ensures { λ r. ⌜ r ≡ needAt width offset ⌝ }
 {
@@ -199,7 +212,7 @@ fn int_at(data: &[u8], offset: usize, k: usize) -> i32
     int_of(be_at(data, offset, k) << spare) >> spare
 }
 
-// The number of 32 bits.
+// The number that 32 bits stand for: the Rust's `as i32`. A cast here has to keep the number, so it takes two.
 fn int_of(bits: u32) -> i32
     ensures { λ r. ⌜ r ≡ signed 32 bits ⌝ }
 {
@@ -259,7 +272,7 @@ fn check_len(data: &[u8], offset: usize, width: usize, kind: u8) -> ResultUnit
     ResultUnit::Ok
 }
 
-// The bits of val.
+// The 32 bits of val: the Rust's `as u32`.
 fn bits_of(val: i32) -> u32
     ensures { λ r. ⌜ r ≡ unsigned 32 val ⌝ }
 {
@@ -281,9 +294,9 @@ fn write_be(buf: &mut [u8], offset: usize, n: u32, k: usize) -> ResultUnit
         × (now (buf .exit) ≡ written (bytesOf k n) (now (buf .entry)) offset) ⌝ }
 {
     let need = need_at(offset, k);
-    let got = buf.len();
-    if got < need {
-        return ResultUnit::Err(WireError::NoRoom { need, got });
+    let room = buf.len();
+    if room < need {
+        return ResultUnit::Err(WireError::NoRoom { need, got: room });
     }
     put_be(buf, offset, n, k);
     ResultUnit::Ok

@@ -1,15 +1,15 @@
 -- `bits_of` meets its contract.
 use borrow.Author.Needs.{needs}
-use Prim.Native.Nat.{ℕ, _<_, _%_, _^_}
-use mathlib.Core.Path.{_≡_, sym, ap, subst, _∙_}
+use Prim.Native.Nat.{_%_}
+use mathlib.Core.Path.{sym, ap, subst, _∙_}
 use native.Mathlib.Omega.{arith}
 use lib.Dec.{T}
 use lib.IntN.{ℤ, natAbs}
-use lib.Signed.{nonNeg, mag}
+use lib.Signed.{nonNeg}
 use mir.Syntax.{w32, w64}
 use mir.Val.{Fits}
 use mir.ValLaws.{half-full}
-use Rattle.integer.proofs.Bias.{lift, cast-fits, lift-lt, lift-bits, sum-fits, sum-back}
+use Rattle.integer.proofs.Bias.{cast-fits, lift-lt, lift-bits, sum-fits, sum-back}
 use Rattle.integer.proofs.bits_of.Statement.{statement}
 use Rattle.integer.proofs.bits_of.Tie as tie
 

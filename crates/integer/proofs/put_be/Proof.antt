@@ -1,10 +1,9 @@
 -- `put_be` meets its contract: from the back, the bytes so far stand where they belong.
-use borrow.Author.Needs.{needs}
-use Prim.Native.Nat.{ℕ, _+_, _-_, _*_, _/_, _^_, _<_, _≤_}
-use mathlib.Core.Path.{_≡_, refl, sym, ap, subst, _∙_}
+use Prim.Native.Nat.{ℕ, _+_, _-_, _/_, _^_, _≤_}
+use mathlib.Core.Path.{_≡_, refl, ap, _∙_}
 use native.Mathlib.Omega.{arith}
 use lib.ListN.{length, length-set}
-use lib.Seq.{sets, length-sets}
+use lib.Seq.{sets}
 use Rattle.integer.specs.Fields.{bytesOf}
 use Rattle.integer.proofs.Stores.{start-rest, start-bytes, more-rest, more-bytes}
 use Rattle.integer.proofs.put_be.Statement.{statement}
