@@ -1,6 +1,7 @@
 // The splitter: cuts a byte stream that comes in chunks into frames F0 .. F1, one event a call.
 // However the stream is cut, the frames are the Rust's; those longer than the hold buffer are answered Overlong (proofs/Stream).
 ghost use mathlib.Core.Path.{_≡_};
+ghost use mathlib.Core.Bool.{false};
 ghost use Prim.Native.Nat.{_+_, _-_, _≤_, _<_};
 ghost use lib.ListN.{length};
 ghost use Rattle.splitter.specs.Feed.{new, isBad, isKept, firstFrom, startIn, laid, shown, ends, goesOn, feedRule};
@@ -61,7 +62,8 @@ impl FrameSplitter {
             };
         }
         let from = start(self, chunk);
-        let end = find(chunk, from, END);
+        let near = skip(chunk, from, END);
+        let end = find(chunk, near, END);
         if end < chunk.len() {
             closes(self, hold, chunk, from, end + 1)
         } else {
@@ -192,6 +194,37 @@ fn find(a: &[u8], from: usize, b: u8) -> usize
         i += 1;
     }
     i
+}
+
+// From index from on, past the blocks of 16 bytes that have no b.
+fn skip(a: &[u8], from: usize, b: u8) -> usize
+    requires { ⌜ from ≤ length (now a) ⌝ }
+    ensures { λ r. ⌜ (firstFrom b from (now (a .entry)) ≡ firstFrom b r (now (a .entry))) × (r ≤ length (now (a .entry))) ⌝ }
+{
+    let mut i = from;
+    while 16 <= a.len() - i {
+        if has(a, i, b) {
+            return i;
+        }
+        i += 16;
+    }
+    i
+}
+
+// Whether b is among the 16 bytes from index i on. All are looked at, so that they are compared at once.
+fn has(a: &[u8], i: usize, b: u8) -> bool
+    requires { ⌜ i + 16 ≤ length (now a) ⌝ }
+    ensures { λ r. ⌜ (r ≡ false → firstFrom b i (now (a .entry)) ≡ firstFrom b (i + 16) (now (a .entry))) ⌝ }
+{
+    let mut hit = false;
+    let mut k = 0;
+    while k < 16 {
+        if a[i + k] == b {
+            hit = true;
+        }
+        k += 1;
+    }
+    hit
 }
 
 // Writes src over dst from index at on.

@@ -1,7 +1,7 @@
--- `splitter::find` meets its contract. The loop's invariant: what is sought from `from` on is what is sought from i on.
+-- `find` meets its contract. The loop's invariant: what is sought from `from` on is what is sought from i on.
 -- Assumes nothing.
 use mathlib.Core.Path.{_≡_, refl, sym, _∙_}
-use Prim.Native.Nat.{ℕ, _+_, _-_, _≤_, _<_}
+use Prim.Native.Nat.{_-_, _≤_}
 use native.Mathlib.Omega.{arith}
 use lib.ListN.{length}
 use Rattle.splitter.specs.Feed.{firstFrom}
@@ -23,8 +23,8 @@ shared-slice-read-if1 c = omega arith
 
 returns : tie.Need-returns Inv-loop μ-loop
 returns c =
-    let l = c .before .before .before in
-    (sym (l .loop .inv .1 ∙ first-hit _ _ _ (c .before .before .loop-test .taken) (c .if1 .taken)), omega arith)
+    let t = c .before .before in
+    (sym (t .before .loop .inv .1 ∙ first-hit _ _ _ (t .loop-test .taken) (c .if1 .taken)), omega arith)
 
 add-i : tie.Need-add-i Inv-loop μ-loop
 add-i c = omega arith
@@ -34,11 +34,22 @@ loop-less c = omega arith
 
 loop-again : tie.Need-loop-again Inv-loop μ-loop
 loop-again c =
-    let l = c .before .before .before in
-    (omega arith, l .loop .inv .1 ∙ first-miss _ _ _ (c .before .before .loop-test .taken) (c .if1 .left))
+    let t = c .before .before in
+    (omega arith, t .before .loop .inv .1 ∙ first-miss _ _ _ (t .loop-test .taken) (c .if1 .left))
 
 returns-2 : tie.Need-returns-2 Inv-loop μ-loop
 returns-2 c = (sym (c .before .loop .inv .1 ∙ first-end _ _ _ (omega arith)), omega arith)
 
 pub find-spec : {M : Type 1} → statement M
-find-spec = tie.close (tie.spec Inv-loop μ-loop loop-holds shared-slice-read-if1 returns add-i loop-less loop-again returns-2)
+find-spec =
+    tie.close
+    (tie.spec
+    Inv-loop
+    μ-loop
+    loop-holds
+    shared-slice-read-if1
+    returns
+    add-i
+    loop-less
+    loop-again
+    returns-2)
