@@ -1,0 +1,6 @@
+-- What the frame rules imply.
+pub mod Cases
+pub mod Stores
+pub mod Wires
+pub mod Round
+pub mod Examples

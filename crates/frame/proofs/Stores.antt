@@ -1,0 +1,45 @@
+-- Runs of stores: one after another, byte by byte, and those of a stuffed byte.
+-- Assumes nothing.
+use mathlib.Core.Path.{_≡_, refl, sym, ap, _∙_}
+use mathlib.Core.Bool.{cond}
+use mathlib.Core.List.{List, [], _∷_, _++_}
+use Prim.Native.Nat.{ℕ, suc, _+_, _≤_, _<_}
+use native.Mathlib.Nat.{add-zero, zero-add, add-suc, suc-add}
+use native.Mathlib.Numerals.{add-one}
+use native.Mathlib.Omega.{arith}
+use lib.Dec.{eqb}
+use lib.ListN.{length, drop, getD, set}
+use lib.Seq.{sets, sets-eq, set-set, drop-cons}
+use borrow.Author.Tests.{eq-eqb, ne-eqb}
+use Rattle.error.proofs.Cases.{by-eq}
+use Rattle.stuffing.specs.Stuff.{escapeOf, stuffByte}
+use Rattle.stuffing.proofs.Codes.{plain, escaped}
+
+pub sets-append : (a b l : List ℕ) (i : ℕ) → sets (sets l i a) (i + length a) b ≡ sets l i (a ++ b)
+sets-append [] b l i = rw add-zero
+sets-append (x ∷ a) b l i = rw (add-suc, ← suc-add) (sets-append a b (set l i x) (suc i))
+
+-- the stores of a from its byte k on
+pub sets-from : (a l : List ℕ) (at k : ℕ) → k < length a → sets (set l (at + k) (getD a k 0)) (at + (k + 1)) (drop (k + 1) a) ≡ sets l (at + k) (drop k a)
+sets-from a l at k h = rw (drop-cons a k 0 h, add-one, add-suc)
+
+-- a run of stores from the front: the list, and what was behind it
+pub front : (w old : List ℕ) → length w ≤ length old → sets old 0 w ≡ w ++ drop (length w) old
+front w old h = sets-eq w old 0 (rw zero-add h) ∙ rw zero-add
+
+-- a stuffed byte: its first store, and its last, which may be the same one
+module _ (b code : ℕ) (is : code ≡ escapeOf b) where
+  pub byte-width : (more : ℕ) → more ≡ cond (eqb code 0) 0 1 → 1 + more ≡ length (stuffByte b)
+  byte-width more e =
+      by-eq code 0
+      (λ h. rw (plain b (sym is ∙ h)) (omega (arith, simp (eq-eqb code 0 h) at e)))
+      (λ h. rw (escaped b (λ q. h (is ∙ q))) (omega (arith, simp (ne-eqb code 0 h) at e)))
+
+  pub byte-stored : (more first last : ℕ) → more ≡ cond (eqb code 0) 0 1 → first ≡ cond (eqb code 0) b 0xFD → last ≡ cond (eqb code 0) b code
+      → (old : List ℕ) (at : ℕ) → set (set old at first) (at + more) last ≡ sets old at (stuffByte b)
+  byte-stored more first last m f l old at =
+      by-eq code 0
+      (λ h.
+      rw (m, f, l, eq-eqb code 0 h, plain b (sym is ∙ h), add-zero)
+      (set-set old at b b))
+      (λ h. rw (m, f, l, ne-eqb code 0 h, escaped b (λ q. h (is ∙ q)), add-one, is))

@@ -1,0 +1,87 @@
+-- Document 01, 'Frames': what encoding and parsing answer, test by test in the paper's order.
+-- A refusal is its number and values; a refused call writes nothing (`filled`).
+use Prim.Native.Nat.{ℕ, _+_, _-_, _*_}
+use mathlib.Core.Bool.{cond, not}
+use mathlib.Core.List.{List, [], _∷_, _++_}
+use lib.Dec.{eqb, ltb}
+use lib.ListN.{length, getD, take, drop}
+use Rattle.error.specs.Refusal.{Told, yes, no, refused}
+use Rattle.addr.specs.Address.{addressRule}
+use Rattle.stuffing.specs.Stuff.{sum16}
+use Rattle.stuffing.specs.Unstuff.{unstuff, bytesOf, byteAt, offsetAt}
+use Rattle.frame.specs.Wire.{Fields, fields, wireOf}
+use Rattle.frame.specs.declared.RawFrame.{RawFrame}
+use Rattle.frame.specs.declared.ResultRawFrame.{ResultRawFrame}
+use Rattle.frame.specs.declared.ResultRawFrame.the-variants.{Ok, Err}
+
+-- what was answered fills the buffer's front and the rest keeps its bytes; a refusal writes nothing
+abbrev pub filled : Told (List ℕ) → List ℕ → List ℕ
+filled (yes w) old = w ++ drop (length w) old
+filled (no k vs) old = old
+
+-- a test that comes after another
+abbrev pub then : {A B : Type 0} → Told A → (A → Told B) → Told B
+then (yes a) rule = rule a
+then (no k vs) rule = no k vs
+
+-- ---- encoding
+
+-- payload above 65,535 bytes (10), then room for the whole wire (8)
+unfoldable pub encodeRule : Fields → ℕ → Told (List ℕ)
+encodeRule f room =
+    cond (ltb 65535 (length (f .payload))) (no 10 (length (f .payload) ∷ []))
+    (cond (ltb room (length (wireOf f))) (no 8 (length (wireOf f) ∷ room ∷ []))
+    (yes (wireOf f)))
+
+-- ---- parsing
+
+-- what stands between the first and the last byte
+abbrev pub interior : List ℕ → List ℕ
+interior wire = take (length wire - 2) (drop 1 wire)
+
+-- the checksum that came, the last two unstuffed bytes; and the sum of the stuffed bytes before it
+abbrev pub receivedOf : List (ℕ × ℕ) → ℕ
+receivedOf us = byteAt us (length us - 2) * 256 + byteAt us (length us - 1)
+
+abbrev pub computedOf : List ℕ → List (ℕ × ℕ) → ℕ
+computedOf inner us = sum16 (take (offsetAt us (length us - 2)) inner)
+
+abbrev pub payloadOf : List (ℕ × ℕ) → List ℕ
+payloadOf us = take (length us - 5) (drop 3 (bytesOf us))
+
+-- DEST, then SRC (6)
+unfoldable pub addressesRule : List (ℕ × ℕ) → Told Fields
+addressesRule us =
+    then (addressRule (byteAt us 0)) (λ dest. then (addressRule (byteAt us 1)) (λ src. yes (fields dest src (byteAt us 2) (payloadOf us))))
+
+-- checksum (5)
+unfoldable pub sumRule : List ℕ → List (ℕ × ℕ) → Told Fields
+sumRule inner us =
+    cond (not (eqb (receivedOf us) (computedOf inner us))) (no 5 (receivedOf us ∷ computedOf inner us ∷ [])) (addressesRule us)
+
+-- fewer than five unstuffed bytes (1, with the wire length)
+unfoldable pub unitsRule : ℕ → List ℕ → List (ℕ × ℕ) → Told Fields
+unitsRule whole inner us = cond (ltb (length us) 5) (no 1 (whole ∷ [])) (sumRule inner us)
+
+-- length below 7 (1); first byte (2); last byte (3); escapes, left to right (4)
+unfoldable pub checkRule : List ℕ → Told Fields
+checkRule wire =
+    cond (ltb (length wire) 7) (no 1 (length wire ∷ []))
+    (cond (not (eqb (getD wire 0 0) 0xF0)) (no 2 (getD wire 0 0 ∷ []))
+    (cond (not (eqb (getD wire (length wire - 1) 0) 0xF1)) (no 3 [])
+    (then (unstuff 0 (interior wire)) (unitsRule (length wire) (interior wire)))))
+
+-- payload longer than the lent buffer (8)
+abbrev pub roomRule : ℕ → Fields → Told Fields
+roomRule room f = cond (ltb room (length (f .payload))) (no 8 (length (f .payload) ∷ room ∷ [])) (yes f)
+
+unfoldable pub parseRule : List ℕ → ℕ → Told Fields
+parseRule wire room = then (checkRule wire) (roomRule room)
+
+-- a frame as it is answered: its payload stands in the lent buffer, and its length here
+abbrev pub headerOf : Fields → RawFrame
+headerOf f = record { dest = f .dest; src = f .src; «type_id» = f .type; len = length (f .payload) }
+
+abbrev pub toldRawFrame : ResultRawFrame → Told RawFrame
+toldRawFrame (Ok r) = yes r
+toldRawFrame (Err e) = refused e

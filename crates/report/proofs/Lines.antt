@@ -1,0 +1,97 @@
+-- A whole line: refused where it does not fit, else put at the buffer's front.
+-- Assumes nothing.
+use Prim.Native.Nat.{ℕ, _+_, _<_, _≤_}
+use mathlib.Core.Path.{_≡_, refl, sym, ap, _∙_}
+use mathlib.Core.Bool.{Bool, true, false, cond}
+use mathlib.Core.List.{List, [], _∷_, _++_, append-assoc, append-nil}
+use native.Mathlib.Omega.{arith}
+use lib.Dec.{lit<}
+use lib.ListN.{length, set, length-append}
+use borrow.Author.Tests.{le-leb, lt-leb}
+use Rattle.error.specs.Refusal.{yes, no}
+use Rattle.report.specs.Text.{decimalOf, hexOf}
+use Rattle.report.specs.Line.{spaced, fitted, frameText, longText, endText, Lined}
+use Rattle.report.specs.Put.{Put}
+use Rattle.frame.specs.declared.RawFrame.{RawFrame}
+use Rattle.addr.specs.Address.{byteOf}
+use Rattle.report.proofs.Decimal.{length-small}
+use Rattle.report.proofs.Stores.{sets-front, put-last, put-length}
+use Rattle.report.proofs.Values.{valuesText}
+
+module _ (text old : List ℕ) (need : ℕ) (whole : need ≡ length text) (little : need ≤ 128) where
+  short : length text ≤ 128
+  short = rw whole at little
+
+  pub refused-line : length old < need → Lined text old (no 8 (need ∷ length old ∷ [])) old
+  unfolding fitted
+  refused-line h =
+      let s : length old < length text = omega arith in
+      record { reply = rw (lt-leb _ _ s, whole); bytes = rw (lt-leb _ _ s); short = short }
+
+  pub put-line : {next : ℕ} {new : List ℕ} → need ≤ length old → Put text old 0 next new → Lined text old (yes need) new
+  unfolding fitted
+  put-line {next} {new} h p =
+      let s : length text ≤ length old = omega arith in
+      record { reply = rw (le-leb _ _ s, whole); bytes = rw (le-leb _ _ s) (p .bytes ∙ sets-front old text s); short = short }
+
+  -- the same, of a line whose end is stored last
+  module _ {front new : List ℕ} {at : ℕ} (h : need ≤ length old) (p : Put front old 0 at new) (e : front ++ (0x0A ∷ []) ≡ text) where
+    pub end-room : at < length new
+    end-room =
+        let l : length text ≡ length front + 1 = sym (ap length e) ∙ length-append front (0x0A ∷ []) in
+        omega (arith, p .place, put-length p)
+
+    pub ended-line : Lined text old (yes need) (set new at 0x0A)
+    ended-line = put-line h (rw e at (put-last 0x0A p))
+
+-- ---- each line's parts, in the order in which they are put, and its length
+
+-- ` - LONG` and the line's end
+abbrev pub longEnd : List ℕ
+longEnd = 0x20 ∷ 0x2D ∷ 0x20 ∷ 0x4C ∷ 0x4F ∷ 0x4E ∷ 0x47 ∷ 0x0A ∷ []
+
+pub long-parts : (n : ℕ) → decimalOf n ++ longEnd ≡ longText n
+unfolding longText
+long-parts n = refl
+
+pub long-length : (n : ℕ) → length (decimalOf n) + 8 ≡ length (longText n)
+long-length n = sym (length-append (decimalOf n) longEnd) ∙ ap length (long-parts n)
+
+pub end-parts : (k : ℕ) (mark : Bool) → (((0x65 ∷ 0x6E ∷ 0x64 ∷ []) ++ (0x20 ∷ decimalOf k)) ++ (0x20 ∷ decimalOf (cond mark 1 0))) ++ (0x0A ∷ []) ≡ endText k mark
+unfolding endText
+end-parts k mark = simp (append-assoc, append-nil)
+
+pub mark-length : (mark : Bool) → 1 ≡ length (decimalOf (cond mark 1 0))
+mark-length true = sym (length-small 1 (lit< tt))
+mark-length false = sym (length-small 0 (lit< tt))
+
+pub end-length : (k : ℕ) (mark : Bool) → length (decimalOf k) + 7 ≡ length (endText k mark)
+end-length k mark = rw (← end-parts k mark) (simp length-append (omega (arith, mark-length mark)))
+
+abbrev pub fieldsText : RawFrame → List ℕ
+fieldsText f = spaced (hexOf (byteOf (f .dest)) ∷ hexOf (byteOf (f .src)) ∷ hexOf (f .«type_id») ∷ decimalOf (f .len) ∷ [])
+
+-- what stands in front of the line's end, where the frame is good, and where it is refused
+module _ (n len : ℕ) where
+  abbrev pub headText : List ℕ → List ℕ
+  headText word = decimalOf n ++ ((0x20 ∷ decimalOf len) ++ word)
+
+  pub ok-parts : (f : RawFrame) → (headText (0x20 ∷ 0x4F ∷ 0x4B ∷ []) ++ fieldsText f) ++ (0x0A ∷ []) ≡ frameText n len (yes f)
+  unfolding frameText
+  ok-parts f = simp append-assoc
+
+  pub ok-length : (f : RawFrame) → length (decimalOf n) + length (decimalOf len) + length (decimalOf (f .len)) + 15 ≡ length (frameText n len (yes f))
+  unfolding frameText hexOf
+  ok-length f = simp length-append (omega arith)
+
+  pub no-parts : (k : ℕ) (vs : List ℕ) → ((headText (0x20 ∷ 0x4E ∷ 0x4F ∷ []) ++ (0x20 ∷ decimalOf k)) ++ valuesText vs) ++ (0x0A ∷ []) ≡ frameText n len (no k vs)
+  unfolding frameText
+  no-parts k vs =
+      let h = headText (0x20 ∷ 0x4E ∷ 0x4F ∷ []) in
+      append-assoc (h ++ (0x20 ∷ decimalOf k)) (valuesText vs) (0x0A ∷ [])
+      ∙ append-assoc h (0x20 ∷ decimalOf k) (valuesText vs ++ (0x0A ∷ []))
+      ∙ simp append-assoc
+
+  pub no-length : (k : ℕ) (vs : List ℕ) → length (decimalOf n) + length (decimalOf len) + length (decimalOf k) + length (valuesText vs) + 6 ≡ length (frameText n len (no k vs))
+  unfolding frameText
+  no-length k vs = simp length-append (omega arith)

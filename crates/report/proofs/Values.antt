@@ -1,0 +1,46 @@
+-- A refusal's values as text, one after the other: one more of them, the room for it, how long they are.
+-- Assumes nothing.
+use Prim.Native.Nat.{ℕ, zero, suc, _+_, _*_, _<_, _≤_}
+use mathlib.Core.Path.{_≡_, refl, sym, ap, _∙_}
+use mathlib.Core.List.{List, [], _∷_, _++_, map, append-assoc, append-nil}
+use native.Mathlib.Omega.{arith}
+use lib.Dec.{lit≤}
+use lib.ListN.{length, take, getD, length-append}
+use Rattle.error.specs.declared.WireError.{WireError}
+use Rattle.error.specs.declared.WireError.the-variants.{FrameTooShort, MissingStart, MissingEnd, InvalidEscape, ChecksumMismatch, UnknownBusAddr, PayloadTooShort, NoRoom, BadState, PayloadTooLong, NoField}
+use Rattle.error.specs.Refusal.{valuesOf}
+use Rattle.report.specs.Text.{decimalOf}
+use Rattle.report.specs.Line.{spaced}
+
+abbrev pub valuesText : List ℕ → List ℕ
+valuesText vs = spaced (map decimalOf vs)
+
+pub one-more : (vs : List ℕ) (i : ℕ) → i < length vs → valuesText (take i vs) ++ (0x20 ∷ decimalOf (getD vs i 0)) ≡ valuesText (take (suc i) vs)
+one-more [] i h = absurd (let q : ⊥ = omega arith in q)
+one-more (v ∷ vs) zero h = ap (λ (l : List ℕ). 0x20 ∷ l) (sym (append-nil (decimalOf v)))
+one-more (v ∷ vs) (suc i) h =
+    ap (λ (l : List ℕ). 0x20 ∷ l)
+    (append-assoc (decimalOf v) (valuesText (take i vs)) (0x20 ∷ decimalOf (getD vs i 0)) ∙ ap (λ (l : List ℕ). decimalOf v ++ l) (one-more vs i (omega arith)))
+
+pub room-for : (vs : List ℕ) (i : ℕ) → i < length vs → length (valuesText (take i vs)) + (length (decimalOf (getD vs i 0)) + 1) ≤ length (valuesText vs)
+room-for [] i h = absurd (let q : ⊥ = omega arith in q)
+room-for (v ∷ vs) zero h = omega (arith, length-append (decimalOf v) (valuesText vs))
+room-for (v ∷ vs) (suc i) h =
+    omega (arith, length-append (decimalOf v) (valuesText vs), length-append (decimalOf v) (valuesText (take i vs)), room-for vs i (omega arith))
+
+pub wider : (vs : List ℕ) (i : ℕ) → i < length vs → length (valuesText (take (suc i) vs)) ≡ length (valuesText (take i vs)) + (length (decimalOf (getD vs i 0)) + 1)
+wider vs i h =
+    sym (ap length (one-more vs i h)) ∙ length-append (valuesText (take i vs)) (0x20 ∷ decimalOf (getD vs i 0)) ∙ omega arith
+
+pub at-most-3 : (e : WireError) → length (valuesOf e) ≤ 3
+at-most-3 (FrameTooShort len) = lit≤ tt
+at-most-3 (MissingStart got) = lit≤ tt
+at-most-3 MissingEnd = lit≤ tt
+at-most-3 (InvalidEscape code offset) = lit≤ tt
+at-most-3 (ChecksumMismatch expected computed) = lit≤ tt
+at-most-3 (UnknownBusAddr addr) = lit≤ tt
+at-most-3 (PayloadTooShort kind need got) = lit≤ tt
+at-most-3 (NoRoom need got) = lit≤ tt
+at-most-3 BadState = lit≤ tt
+at-most-3 (PayloadTooLong len) = lit≤ tt
+at-most-3 (NoField number) = lit≤ tt

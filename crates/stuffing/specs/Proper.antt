@@ -1,0 +1,18 @@
+-- Words for the private walks over stuffed strings; no public contract cites them.
+-- A proper string is one that unstuffs (proofs/Proper): each FD in it is followed by a code.
+use Prim.Native.Nat.{ℕ, _+_}
+use mathlib.Core.Path.{_≡_}
+use mathlib.Core.Bool.{cond}
+use mathlib.Core.List.{List, [], _∷_}
+use lib.Dec.{eqb}
+use Rattle.stuffing.specs.Stuff.{unescapeOf}
+
+pub data Proper : List ℕ → Type 0 where
+  none : Proper []
+  byte : {b : ℕ} {l : List ℕ} → (b ≡ 0xFD → ⊥) → Proper l → Proper (b ∷ l)
+  escape : {b c : ℕ} {l : List ℕ} → b ≡ 0xFD → (unescapeOf c ≡ 0 → ⊥) → Proper l → Proper (b ∷ c ∷ l)
+
+-- how many bytes are not FD: as many as a proper string unstuffs to
+abbrev pub kept : List ℕ → ℕ
+kept [] = 0
+kept (b ∷ l) = cond (eqb b 0xFD) 0 1 + kept l
