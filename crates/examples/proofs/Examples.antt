@@ -1,0 +1,13 @@
+-- Document 01, 'Frames to prove or run': the wires (a) to (g) and the FLOAT40 fields (h) to (l), one list.
+-- Assumes nothing.
+use Rattle.frame.proofs.Examples.{Frames, examples-frames}
+use Rattle.float40.proofs.Examples.{Float40Examples, examples-float40}
+
+pub record Examples : Type 0 where
+  -- a b c d e f g
+  pub wires : Frames
+  -- h i j k l
+  pub floats : Float40Examples
+
+pub examples : Examples
+examples = record { wires = examples-frames; floats = examples-float40 }

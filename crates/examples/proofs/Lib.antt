@@ -1,0 +1,2 @@
+-- The one list of worked examples.
+pub mod Examples
