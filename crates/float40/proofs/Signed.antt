@@ -54,7 +54,7 @@ mag-less (pos n) d =
     (λ h. subst (λ (y : ℤ). mag y ≤ n + suc d) (sym (sub-le n (suc d) h)) (omega arith))
 mag-less (negsuc n) d = omega arith
 
--- ---- a number from -H to M, counted from -H
+-- ---- a number from -(H + 1) to M, counted from there
 
 module _ (H M : ℕ) where
   pub counted : (z : ℤ) → ltZ z (negsuc H) ≡ false → ltZ (pos M) z ≡ false → (j : ℕ) × (j ≤ suc H + M) × (z +ℤ pos (suc H) ≡ pos j) × (z ≡ minus j (suc H))
