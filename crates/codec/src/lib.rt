@@ -21,6 +21,7 @@ pub use integer::read_uint32;
 pub use integer::uint16_at;
 pub use integer::uint24_at;
 pub use integer::uint32_at;
+pub use integer::within;
 pub use integer::write_int16;
 pub use integer::write_int24;
 pub use integer::write_int32;

@@ -14,6 +14,7 @@ use lib.ListN.{length, getD, set, length-set}
 use lib.Pow.{pow-pos}
 use lib.Seq.{sets, length-sets, getD-set-same, getD-set-other, set-getD}
 use lib.Signed.{mag}
+use borrow.Author.Tests.{le-leb}
 use Rattle.error.specs.Refusal.{yes}
 use Rattle.integer.specs.Fields.{beAt, signed, intAt, bytesOf, unsigned, intBytes, reading, written}
 use Rattle.integer.proofs.BigEndian.{be-lt}
@@ -89,7 +90,7 @@ be-sets (suc k) n s at h =
 -- the low bits, of any number
 pub be-low : (k n : ℕ) (s : List ℕ) (at : ℕ) → at + k ≤ length s → beAt k (written (bytesOf k n) s at) at ≡ n % 2 ^ (8 * k)
 be-low k n s at h =
-    ap (λ (l : List ℕ). beAt k l at) (writes (bytesOf k n) s at (rw length-bytes h) .1)
+    ap (λ (l : List ℕ). beAt k l at) (writes (bytesOf k n) s at (le-leb (at + length (bytesOf k n)) (length s) (rw length-bytes h)) .1)
     ∙ be-sets k n s at h
     ∙ ap (λ (m : ℕ). n % m) (bytes-bits k)
 
@@ -107,16 +108,16 @@ int-back k z s at o g h = int-low k z s at h ∙ signed-unsigned (8 * k) z (omeg
 -- as a reader tells it
 pub be-reads-back : (kind k n : ℕ) (s : List ℕ) (at : ℕ) → n < 2 ^ (8 * k) → at + k ≤ length s → reading kind k (beAt k) (written (bytesOf k n) s at) at ≡ yes n
 be-reads-back kind k n s at g h =
-    reads kind k (beAt k) (written (bytesOf k n) s at) at (rw length-written h) ∙ ap yes (be-back k n s at g h)
+    reads kind k (beAt k) (written (bytesOf k n) s at) at (le-leb (at + k) (length (written (bytesOf k n) s at)) (rw length-written h)) ∙ ap yes (be-back k n s at g h)
 
 pub int-reads-back : (kind k : ℕ) (z : ℤ) (s : List ℕ) (at : ℕ) → 0 < k → mag z < 2 ^ (8 * k - 1) → at + k ≤ length s → reading kind k (intAt k) (written (intBytes k z) s at) at ≡ yes z
 int-reads-back kind k z s at o g h =
-    reads kind k (intAt k) (written (intBytes k z) s at) at (rw length-written h) ∙ ap yes (int-back k z s at o g h)
+    reads kind k (intAt k) (written (intBytes k z) s at) at (le-leb (at + k) (length (written (intBytes k z) s at)) (rw length-written h)) ∙ ap yes (int-back k z s at o g h)
 
 -- ---- what is read, written again, changes nothing
 
 module _ (s : List ℕ) (bytes : (i : ℕ) → getD s i 0 < 256) where
-  sets-again : (k at : ℕ) → sets s at (bytesOf k (beAt k s at)) ≡ s
+  pub sets-again : (k at : ℕ) → sets s at (bytesOf k (beAt k s at)) ≡ s
   unfolding beAt bytesOf
   sets-again zero at = refl
   sets-again (suc k) at =

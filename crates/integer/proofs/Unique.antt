@@ -11,11 +11,12 @@ use Rattle.error.specs.declared.ResultU16.{ResultU16}
 use Rattle.error.specs.declared.ResultI32.{ResultI32}
 use Rattle.error.specs.declared.ResultU32.{ResultU32}
 use Rattle.error.specs.declared.ResultF64.{ResultF64}
-use Rattle.error.specs.Result.{toldUnit, toldI16, toldU16, toldI32, toldU32, toldF64}
+use Rattle.error.specs.Result.{toldI16, toldU16, toldI32, toldU32, toldF64}
 use Rattle.error.proofs.Decides.{one-unit, one-i16, one-u16, one-i32, one-u32, one-f64}
-use Rattle.integer.specs.Fields.{reading, writing, written}
+use Rattle.integer.specs.Fields.{reading}
+use Rattle.integer.proofs.Reading.{Wrote}
 
--- `byte_at`, `need_at` and the six `.._at`: the reply is the rule's value
+-- `byte_at`, `need_at`, `within` and the six `.._at`: the reply is the rule's value
 pub one-at : {A : Type 0} {r t v : A} → r ≡ v → t ≡ v → r ≡ t
 one-at p q = p ∙ sym q
 
@@ -37,5 +38,5 @@ module _ (kind k : ℕ) (s : List ℕ) (at : ℕ) where
   one-read-f64 value = one-f64
 
 -- the six `write_..`
-pub one-write : (bs s : List ℕ) (at : ℕ) {r t : ResultUnit} {b d : List ℕ} → (toldUnit r ≡ writing bs s at) × (b ≡ written bs s at) → (toldUnit t ≡ writing bs s at) × (d ≡ written bs s at) → (r ≡ t) × (b ≡ d)
+pub one-write : (bs s : List ℕ) (at : ℕ) {r t : ResultUnit} {b d : List ℕ} → Wrote r b bs s at → Wrote t d bs s at → (r ≡ t) × (b ≡ d)
 one-write bs s at p q = (one-unit (p .0) (q .0), one-at (p .1) (q .1))

@@ -2,6 +2,7 @@
 // Too short is refused with 7, no room with 8; a refusal writes nothing.
 ghost use mathlib.Core.Path.{_≡_};
 ghost use Prim.Native.Nat.{_+_, _*_, _^_, _<_, _≤_};
+ghost use lib.Dec.{leb};
 ghost use lib.ListN.{length, getD};
 ghost use lib.Seq.{sets};
 ghost use Rattle.error.specs.Result.{toldUnit, toldI16, toldU16, toldI32, toldU32, toldF64};
@@ -192,6 +193,16 @@ pub fn write_uint32(buf: &mut [u8], offset: usize, val: u32) -> ResultUnit
 
 // ---- what they share
 
+// Whether k bytes at a place lie within len. No sum, so nothing to wrap; len - k is the same at every place.
+pub fn within(len: usize, offset: usize, k: usize) -> bool
+    ensures { λ r. ⌜ r ≡ leb (offset + k) len ⌝ }
+{
+    if len < k {
+        return false;
+    }
+    offset <= len - k
+}
+
 // The need of a field: place plus width, or the largest usize where that passes it.
 pub fn need_at(offset: usize, width: usize) -> usize
     ensures { λ r. ⌜ r ≡ needAt width offset ⌝ }
@@ -228,10 +239,10 @@ fn be_at(data: &[u8], offset: usize, k: usize) -> u32
     requires { ⌜ k ≤ 4 ⌝ }
     ensures { λ r. ⌜ (r ≡ beAt k (now («data» .entry)) offset) × (r < 2 ^ (8 * k)) ⌝ }
 {
-    if data.len() < need_at(offset, k) {
-        return be_cut(data, offset, k);
+    if within(data.len(), offset, k) {
+        return be(data, offset, k);
     }
-    be(data, offset, k)
+    be_cut(data, offset, k)
 }
 
 // The same of a field that is there: no byte is tested.
@@ -264,12 +275,12 @@ fn be_cut(data: &[u8], offset: usize, k: usize) -> u32
 fn check_len(data: &[u8], offset: usize, width: usize, kind: u8) -> ResultUnit
     ensures { λ r. ⌜ toldUnit r ≡ reading kind width (λ s at. tt) (now («data» .entry)) offset ⌝ }
 {
+    if within(data.len(), offset, width) {
+        return ResultUnit::Ok;
+    }
     let need = need_at(offset, width);
     let got = data.len();
-    if got < need {
-        return ResultUnit::Err(WireError::PayloadTooShort { kind, need, got });
-    }
-    ResultUnit::Ok
+    ResultUnit::Err(WireError::PayloadTooShort { kind, need, got })
 }
 
 // The 32 bits of val: the Rust's `as u32`.
@@ -293,13 +304,13 @@ fn write_be(buf: &mut [u8], offset: usize, n: u32, k: usize) -> ResultUnit
     ensures { λ r. ⌜ (toldUnit r ≡ writing (bytesOf k n) (now (buf .entry)) offset)
         × (now (buf .exit) ≡ written (bytesOf k n) (now (buf .entry)) offset) ⌝ }
 {
+    if within(buf.len(), offset, k) {
+        put_be(buf, offset, n, k);
+        return ResultUnit::Ok;
+    }
     let need = need_at(offset, k);
     let room = buf.len();
-    if room < need {
-        return ResultUnit::Err(WireError::NoRoom { need, got: room });
-    }
-    put_be(buf, offset, n, k);
-    ResultUnit::Ok
+    ResultUnit::Err(WireError::NoRoom { need, got: room })
 }
 
 // The same where they fit, the last first.

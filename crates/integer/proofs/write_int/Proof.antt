@@ -1,15 +1,14 @@
 -- `write_int` meets its contract: the low bytes of 32 bits are the low bytes.
 use borrow.Author.Needs.{needs}
-use Prim.Native.Nat.{_*_, _≤_}
-use mathlib.Core.Path.{_≡_, ap, subst, _∙_}
+use Prim.Native.Nat.{ℕ, _*_, _≤_}
+use mathlib.Core.Path.{ap, subst, _∙_}
 use mathlib.Core.List.{List}
-use Prim.Native.Nat.{ℕ}
 use native.Mathlib.Omega.{arith}
 use mir.Syntax.{w32}
 use mir.ValLaws.{toZ-ofZ}
-use Rattle.error.specs.Result.{toldUnit}
-use Rattle.integer.specs.Fields.{bytesOf, unsigned, writing, written}
+use Rattle.integer.specs.Fields.{bytesOf, unsigned}
 use Rattle.integer.proofs.Bytes.{wide}
+use Rattle.integer.proofs.Reading.{Wrote}
 use Rattle.integer.proofs.write_int.Statement.{statement}
 use Rattle.integer.proofs.write_int.Tie as tie
 
@@ -29,7 +28,7 @@ returns c =
     let w = c .before .before .write-be in
     let h : 8 * a .k ≤ 32 = omega arith in
     let e = ap (bytesOf (a .k)) (c .before .before .before .bits-of .ensures ∙ ap (unsigned 32) (toZ-ofZ w32 (a .val) (start .fits .val))) ∙ wide 32 (a .k) (a .val) h in
-    subst (λ (bs : List ℕ). (toldUnit (w .result) ≡ writing bs (a .buf .now) (a .offset)) × (w .last .0 ≡ written bs (a .buf .now) (a .offset))) e (w .ensures)
+    subst (λ (bs : List ℕ). Wrote (w .result) (w .last .0) bs (a .buf .now) (a .offset)) e (w .ensures)
 
 pub write-int-spec : {M : Type 1} → statement M
 write-int-spec = tie.close (tie.spec bits-of-requires write-be-requires same-length returns)

@@ -1,11 +1,11 @@
 -- `write_int16` meets its contract.
 use borrow.Author.Needs.{needs}
-use mathlib.Core.Path.{_≡_, subst}
+use mathlib.Core.Path.{subst}
 use lib.IntN.{ℤ}
 use mir.Syntax.{w16, w32}
-use Rattle.error.specs.Result.{toldUnit}
-use Rattle.integer.specs.Fields.{intBytes, writing, written}
+use Rattle.integer.specs.Fields.{intBytes}
 use Rattle.integer.proofs.Bias.{kept, cast-fits}
+use Rattle.integer.proofs.Reading.{Wrote}
 use Rattle.integer.proofs.write_int16.Statement.{statement}
 use Rattle.integer.proofs.write_int16.Tie as tie
 
@@ -23,8 +23,7 @@ returns c =
     let start = c .before .before .before .before .before in
     let a = start .args in
     let w = c .before .before .write-int in
-    subst (λ (z : ℤ). (toldUnit (w .result) ≡ writing (intBytes 2 z) (a .buf .now) (a .offset)) × (w .last .0 ≡ written (intBytes 2 z) (a .buf .now) (a .offset)))
-    (kept w16 w32 (a .val) tt (start .fits .val)) (w .ensures)
+    subst (λ (z : ℤ). Wrote (w .result) (w .last .0) (intBytes 2 z) (a .buf .now) (a .offset)) (kept w16 w32 (a .val) tt (start .fits .val)) (w .ensures)
 
 pub write-int16-spec : {M : Type 1} → statement M
 write-int16-spec = tie.close (tie.spec cast-write-int write-int-requires same-length returns)

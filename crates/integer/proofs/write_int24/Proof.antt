@@ -1,11 +1,11 @@
 -- `write_int24` meets its contract.
 use borrow.Author.Needs.{needs}
-use mathlib.Core.Path.{_≡_, subst}
+use mathlib.Core.Path.{subst}
 use lib.IntN.{ℤ}
 use mir.Syntax.{w32}
 use mir.ValLaws.{toZ-ofZ}
-use Rattle.error.specs.Result.{toldUnit}
-use Rattle.integer.specs.Fields.{intBytes, writing, written}
+use Rattle.integer.specs.Fields.{intBytes}
+use Rattle.integer.proofs.Reading.{Wrote}
 use Rattle.integer.proofs.write_int24.Statement.{statement}
 use Rattle.integer.proofs.write_int24.Tie as tie
 
@@ -20,8 +20,7 @@ returns c =
     let start = c .before .before .before .before .before in
     let a = start .args in
     let w = c .before .before .write-int in
-    subst (λ (z : ℤ). (toldUnit (w .result) ≡ writing (intBytes 3 z) (a .buf .now) (a .offset)) × (w .last .0 ≡ written (intBytes 3 z) (a .buf .now) (a .offset)))
-    (toZ-ofZ w32 (a .val) (start .fits .val)) (w .ensures)
+    subst (λ (z : ℤ). Wrote (w .result) (w .last .0) (intBytes 3 z) (a .buf .now) (a .offset)) (toZ-ofZ w32 (a .val) (start .fits .val)) (w .ensures)
 
 pub write-int24-spec : {M : Type 1} → statement M
 write-int24-spec = tie.close (tie.spec write-int-requires same-length returns)
