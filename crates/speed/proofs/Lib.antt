@@ -1,0 +1,4 @@
+-- The laws of D9.
+pub mod Fill
+pub mod Nonzero
+pub mod Sides

@@ -1,0 +1,2 @@
+-- The rule of D9.
+pub mod Profile
