@@ -1,0 +1,3 @@
+-- What the contracts of `reader` cite: the moves, and the head that a run of them reads.
+pub mod Moves
+pub mod Point
