@@ -11,25 +11,8 @@ use Rattle.error.specs.Refusal.{Told, yes, no}
 use Rattle.addr.specs.declared.BusAddr.{BusAddr}
 use Rattle.addr.specs.Address.{addressRule}
 use Rattle.stuffing.specs.Unstuff.{unstuff, byteAt}
-use Rattle.frame.specs.Wire.{Fields, fields, wireOf}
-use Rattle.frame.specs.Rule.{then, encodeRule, interior, receivedOf, computedOf, payloadOf, addressesRule, sumRule, unitsRule, checkRule, roomRule, parseRule}
-
--- ---- encoding
-
-module _ (f : Fields) (room : ℕ) where
-  pub encode-long : 65535 < length (f .payload) → encodeRule f room ≡ no 10 (length (f .payload) ∷ [])
-  unfolding encodeRule
-  encode-long h = simp (lt-ltb _ _ h)
-
-  pub encode-room : length (f .payload) ≤ 65535 → room < length (wireOf f) → encodeRule f room ≡ no 8 (length (wireOf f) ∷ room ∷ [])
-  unfolding encodeRule
-  encode-room h g = simp (le-ltb _ _ h, lt-ltb _ _ g)
-
-  pub encode-fits : length (f .payload) ≤ 65535 → length (wireOf f) ≤ room → encodeRule f room ≡ yes (wireOf f)
-  unfolding encodeRule
-  encode-fits h g = simp (le-ltb _ _ h, le-ltb _ _ g)
-
--- ---- parsing
+use Rattle.frame.specs.Wire.{Fields, fields}
+use Rattle.frame.specs.Rule.{then, interior, receivedOf, computedOf, payloadOf, addressesRule, sumRule, unitsRule, checkRule, roomRule, parseRule}
 
 module _ (us : List (ℕ × ℕ)) where
   pub bad-dest : (k : ℕ) (vs : List ℕ) → addressRule (byteAt us 0) ≡ no k vs → addressesRule us ≡ no k vs

@@ -1,6 +1,5 @@
 -- What the frame rules imply.
 pub mod Cases
-pub mod Stores
 pub mod Wires
 pub mod Round
 pub mod Examples

@@ -1,4 +1,4 @@
--- Document 01, 'Frames': what encoding and parsing answer, test by test in the paper's order.
+-- Document 01, 'Frames': what parsing answers, test by test in the paper's order; encoding's rule is `encoding`'s.
 -- A refusal is its number and values; a refused call writes nothing (`filled`).
 use Prim.Native.Nat.{ℕ, _+_, _-_, _*_}
 use mathlib.Core.Bool.{cond, not}
@@ -9,31 +9,17 @@ use Rattle.error.specs.Refusal.{Told, yes, no, refused}
 use Rattle.addr.specs.Address.{addressRule}
 use Rattle.stuffing.specs.Stuff.{sum16}
 use Rattle.stuffing.specs.Unstuff.{unstuff, bytesOf, byteAt, offsetAt}
-use Rattle.frame.specs.Wire.{Fields, fields, wireOf}
+use Rattle.encoding.specs.Wire.{Fields, fields}
 use Rattle.frame.specs.declared.RawFrame.{RawFrame}
 use Rattle.frame.specs.declared.ResultRawFrame.{ResultRawFrame}
 use Rattle.frame.specs.declared.ResultRawFrame.the-variants.{Ok, Err}
-
--- what was answered fills the buffer's front and the rest keeps its bytes; a refusal writes nothing
-abbrev pub filled : Told (List ℕ) → List ℕ → List ℕ
-filled (yes w) old = w ++ drop (length w) old
-filled (no k vs) old = old
+pub use Rattle.encoding.specs.Encode.{filled}
+unfoldable pub use Rattle.encoding.specs.Encode.{encodeRule}
 
 -- a test that comes after another
 abbrev pub then : {A B : Type 0} → Told A → (A → Told B) → Told B
 then (yes a) rule = rule a
 then (no k vs) rule = no k vs
-
--- ---- encoding
-
--- payload above 65,535 bytes (10), then room for the whole wire (8)
-unfoldable pub encodeRule : Fields → ℕ → Told (List ℕ)
-encodeRule f room =
-    cond (ltb 65535 (length (f .payload))) (no 10 (length (f .payload) ∷ []))
-    (cond (ltb room (length (wireOf f))) (no 8 (length (wireOf f) ∷ room ∷ []))
-    (yes (wireOf f)))
-
--- ---- parsing
 
 -- what stands between the first and the last byte
 abbrev pub interior : List ℕ → List ℕ

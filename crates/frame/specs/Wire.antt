@@ -1,25 +1,3 @@
--- Document 01, 'Frames': a wire is F0, stuffed(DEST SRC TYPE PAYLOAD CS_HI CS_LO), F1.
--- `wireOf` is the wire of a frame's fields; its checksum `csOf` adds the stuffed bytes before it.
-use Prim.Native.Nat.{ℕ, _/_, _%_}
-use mathlib.Core.List.{List, [], _∷_, _++_}
-use Rattle.addr.specs.declared.BusAddr.{BusAddr}
-use Rattle.addr.specs.Address.{byteOf}
-use Rattle.stuffing.specs.Stuff.{stuff, sum16}
-
-pub record Fields : Type 0 where
-  pub dest : BusAddr
-  pub src : BusAddr
-  pub type : ℕ
-  pub payload : List ℕ
-
-abbrev pub fields : BusAddr → BusAddr → ℕ → List ℕ → Fields
-fields dest src type payload = record { dest = dest; src = src; type = type; payload = payload }
-
-unfoldable pub bodyOf : Fields → List ℕ
-bodyOf f = stuff (byteOf (f .dest) ∷ byteOf (f .src) ∷ f .type ∷ f .payload)
-
-unfoldable pub csOf : Fields → ℕ
-csOf f = sum16 (bodyOf f)
-
-unfoldable pub wireOf : Fields → List ℕ
-wireOf f = 0xF0 ∷ (bodyOf f ++ (stuff (csOf f / 256 ∷ csOf f % 256 ∷ []) ++ (0xF1 ∷ [])))
+-- The wire of a frame's fields, as `encoding` defines it: F0, stuffed(DEST SRC TYPE PAYLOAD CS_HI CS_LO), F1.
+pub use Rattle.encoding.specs.Wire.{Fields, fields}
+unfoldable pub use Rattle.encoding.specs.Wire.{bodyOf, csOf, wireOf}

@@ -1,4 +1,4 @@
--- What was written reads back, every other field keeps its value, and what is read, written again, changes nothing.
+-- What was written reads-where back, every other field keeps its value, and what is read, written again, changes nothing.
 -- Each once over the width, at any place. Assumes nothing.
 use Prim.Native.Nat.{ℕ, zero, suc, _+_, _-_, _*_, _/_, _%_, _^_, _<_, _≤_}
 use mathlib.Core.Path.{_≡_, refl, sym, ap, _∙_}
@@ -20,7 +20,7 @@ use Rattle.integer.specs.Fields.{beAt, signed, intAt, bytesOf, unsigned,
 use Rattle.integer.proofs.BigEndian.{be-lt}
 use Rattle.integer.proofs.Bytes.{bytes-bits, length-bytes, bytes-low}
 use Rattle.integer.proofs.Complement.{unsigned-lt, signed-unsigned, unsigned-signed}
-use Rattle.integer.proofs.Reading.{reads, writes}
+use Rattle.integer.proofs.Reading.{reads-where, writes-where}
 
 -- ---- every other byte is kept
 
@@ -63,7 +63,7 @@ pub int-kept : (k : ℕ) (bs s : List ℕ) (at p : ℕ) → (p + k ≤ at) ⊎ (
 unfolding intAt
 int-kept k bs s at p h = ap (signed (8 * k)) (be-kept k bs s at p h)
 
--- ---- what was written reads back
+-- ---- what was written reads-where back
 
 -- the first byte's part
 be-front : (k : ℕ) (s : List ℕ) (at : ℕ) → beAt (suc k) s at ≡ getD s at 0 * 256 ^ k + beAt k s (suc at)
@@ -90,7 +90,7 @@ be-sets (suc k) n s at h =
 -- the low bits, of any number
 pub be-low : (k n : ℕ) (s : List ℕ) (at : ℕ) → at + k ≤ length s → beAt k (written (bytesOf k n) s at) at ≡ n % 2 ^ (8 * k)
 be-low k n s at h =
-    ap (λ (l : List ℕ). beAt k l at) (writes (bytesOf k n) s at (le-leb (at + length (bytesOf k n)) (length s) (rw length-bytes h)) .1)
+    ap (λ (l : List ℕ). beAt k l at) (writes-where (bytesOf k n) s at (le-leb (at + length (bytesOf k n)) (length s) (rw length-bytes h)) .1)
     ∙ be-sets k n s at h
     ∙ ap (λ (m : ℕ). n % m) (bytes-bits k)
 
@@ -108,11 +108,11 @@ int-back k z s at o g h = int-low k z s at h ∙ signed-unsigned (8 * k) z (omeg
 -- as a reader tells it
 pub be-reads-back : (kind k n : ℕ) (s : List ℕ) (at : ℕ) → n < 2 ^ (8 * k) → at + k ≤ length s → reading kind k (beAt k) (written (bytesOf k n) s at) at ≡ yes n
 be-reads-back kind k n s at g h =
-    reads kind k (beAt k) (written (bytesOf k n) s at) at (le-leb (at + k) (length (written (bytesOf k n) s at)) (rw length-written h)) ∙ ap yes (be-back k n s at g h)
+    reads-where kind k (beAt k) (written (bytesOf k n) s at) at (le-leb (at + k) (length (written (bytesOf k n) s at)) (rw length-written h)) ∙ ap yes (be-back k n s at g h)
 
 pub int-reads-back : (kind k : ℕ) (z : ℤ) (s : List ℕ) (at : ℕ) → 0 < k → mag z < 2 ^ (8 * k - 1) → at + k ≤ length s → reading kind k (intAt k) (written (intBytes k z) s at) at ≡ yes z
 int-reads-back kind k z s at o g h =
-    reads kind k (intAt k) (written (intBytes k z) s at) at (le-leb (at + k) (length (written (intBytes k z) s at)) (rw length-written h)) ∙ ap yes (int-back k z s at o g h)
+    reads-where kind k (intAt k) (written (intBytes k z) s at) at (le-leb (at + k) (length (written (intBytes k z) s at)) (rw length-written h)) ∙ ap yes (int-back k z s at o g h)
 
 -- ---- what is read, written again, changes nothing
 

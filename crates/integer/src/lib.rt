@@ -309,11 +309,11 @@ fn write_be(buf: &mut [u8], offset: usize, n: u32, k: usize) -> ResultUnit
         return ResultUnit::Ok;
     }
     let need = need_at(offset, k);
-    let room = buf.len();
-    ResultUnit::Err(WireError::NoRoom { need, got: room })
+    let got = buf.len();
+    ResultUnit::Err(WireError::NoRoom { need, got })
 }
 
-// The same where they fit, the last first.
+// The same where they fit, the last byte first.
 fn put_be(buf: &mut [u8], offset: usize, n: u32, k: usize)
     requires { ⌜ offset + k ≤ length (now buf) ⌝ }
     ensures { λ _. ⌜ now (buf .exit) ≡ sets (now (buf .entry)) offset (bytesOf k n) ⌝ }

@@ -1,21 +1,19 @@
 -- One call beside the line: over the bytes that it takes, the two say the same, and the state stands for the frame that is open.
 -- Assumes nothing.
 use mathlib.Core.Path.{_≡_, refl, sym, ap, _∙_}
-use mathlib.Core.Bool.{Bool, true, false, cond, not, _&&_, _||_}
-use mathlib.Core.List.{List, [], _∷_, _++_, append-assoc, append-nil}
-use Prim.Native.Nat.{ℕ, zero, suc, _+_, _-_, _≤_, _<_, zero-le, suc-le-suc}
+use mathlib.Core.Bool.{true, false}
+use mathlib.Core.List.{List, [], _∷_, _++_, append-assoc}
+use Prim.Native.Nat.{ℕ, suc, _+_, _-_, _≤_, _<_, zero-le, suc-le-suc}
 use native.Mathlib.Omega.{arith}
-use native.Mathlib.Nat.{not-suc-le-zero, zero-add, add-suc}
-use native.Mathlib.Numerals.{add-one}
-use lib.Dec.{eqb, leb, ltb}
+use native.Mathlib.Nat.{not-suc-le-zero, zero-add}
+use lib.Dec.{eqb, leb}
 use lib.ListN.{length, take, drop, length-append, length-take, length-drop, take-append-drop, drop-of-length-le, replicate-append-replicate}
 use lib.Seq.{take-add, take-all, take-at, take-length}
-use borrow.Author.Tests.{eq-eqb, ne-eqb, eqb-true, le-leb, lt-leb, leb-true, leb-false, le-ltb, ltb-true, ltb-false}
-use Rattle.error.specs.Refusal.{Told, yes, no}
+use borrow.Author.Tests.{ne-eqb, eqb-true, le-leb, lt-leb, leb-true, leb-false, le-ltb}
 use Rattle.error.proofs.Cases.{by-test, by-lt}
 use Rattle.splitter.specs.declared.FrameSplitter.{FrameSplitter}
-use Rattle.splitter.specs.Feed.{Given, Answer, more, overlong, frame, given, fresh, holding, marked, isBad, isOpen, indexOf, firstFrom, startIn, part, laid, total, isKept, ends, goesOn, feedRule}
-use Rattle.splitter.specs.Stream.{Said, More, Overlong, Frame, saidOf, atLast, answerTo}
+use Rattle.splitter.specs.Feed.{Given, fresh, isBad, indexOf, startIn, part, laid, total, ends, goesOn, feedRule}
+use Rattle.splitter.specs.Stream.{Said, More, saidOf, atLast, answerTo}
 use Rattle.splitter.proofs.Laws.{feed-ends, feed-goes-on}
 use Rattle.splitter.proofs.Line.{opened, hear, silence, hear-append, opened-append, at-last-add, silent, dropped, goes-on, closes, opens-goes-on, opens-closes}
 

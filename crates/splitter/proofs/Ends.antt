@@ -1,13 +1,13 @@
 -- Every offer is answered, and takes at least one byte of a chunk that is not empty, unless the state is refused: so a caller's loop ends.
 -- An empty chunk changes nothing. For every cutting there are such calls. Assumes nothing.
 use mathlib.Core.Path.{_≡_, refl, sym, ap, _∙_}
-use mathlib.Core.Bool.{Bool, true, false, cond, not, _||_}
+use mathlib.Core.Bool.{Bool, true, false, cond, _||_}
 use mathlib.Core.List.{List, [], _∷_, _++_, append-nil}
 use Prim.Native.Nat.{ℕ, zero, suc, _+_, _-_, _≤_, _<_, zero-le}
 use native.Mathlib.Omega.{arith}
 use native.Mathlib.Nat.{not-suc-le-zero, add-zero}
-use lib.Dec.{eqb, ltb}
-use lib.ListN.{length, take, drop, length-take, length-drop, length-replicate, replicate, take-append-drop}
+use lib.Dec.{ltb}
+use lib.ListN.{length, take, drop, length-drop, length-replicate, replicate, take-append-drop}
 use lib.Seq.{take-at, take-append-le, drop-append-le, length-take-le}
 use borrow.Author.Tests.{eqb-true, not-false, le-leb}
 use Rattle.error.specs.Refusal.{Told, yes, no}
@@ -19,7 +19,7 @@ use Rattle.splitter.specs.declared.FrameSplitter.{FrameSplitter}
 use Rattle.splitter.specs.declared.Fed.{Fed}
 use Rattle.splitter.specs.declared.Event.the-variants.{Err}
 use Rattle.splitter.specs.Feed.{Given, Answer, given, more, toldEvent, shown, isBad, isOpen, isKept, indexOf, firstFrom, startIn, laid, ends, goesOn, runs, feedRule}
-use Rattle.splitter.specs.Stream.{Call, call, Calls, Feeds, joined, saidOf}
+use Rattle.splitter.specs.Stream.{Call, Calls, Feeds, joined}
 use Rattle.splitter.specs.Stream as stream
 use Rattle.splitter.proofs.Laws.{not-bad, feed-bad, feed-goes-on}
 use Rattle.splitter.proofs.Calls.{Stands, fits, long, stands-good, Agrees, one-call}
@@ -35,7 +35,7 @@ module _ (s : FrameSplitter) (h : List ℕ) (good : isBad s (length h) ≡ false
   marked-none : s .skipping ≡ true → s .count ≡ 0
   marked-none m = eqb-true _ _ (not-false _ (rw m at (or-false (ltb (length h) (s .count)) _ good)))
 
-  abbrev openBytes : List ℕ
+  abbrev pub openBytes : List ℕ
   openBytes = cond (s .skipping) (replicate (suc (length h)) 0) (take (s .count) h)
 
   good-stands : Stands s h openBytes
@@ -50,7 +50,7 @@ module _ (s : FrameSplitter) (h : List ℕ) (good : isBad s (length h) ≡ false
       let n : length openBytes ≡ s .count = ap length o ∙ length-take-le (s .count) h (not-bad s (length h) good) in
       fits (rw n (not-bad s (length h) good)) (sym n) m (rw n (sym o)))
 
-  good-call : (c : List ℕ) → Agrees h c openBytes (feedRule s h c)
+  pub good-call : (c : List ℕ) → Agrees h c openBytes (feedRule s h c)
   good-call c = one-call openBytes c good-stands
 
 -- ---- how many bytes are taken
@@ -139,10 +139,10 @@ pub record Through (s : FrameSplitter) (h : List ℕ) (cs : List (List ℕ)) : T
   pub held : List ℕ
   pub feeds : Feeds s h cs trace state held
 
-past : {s : FrameSplitter} {h : List ℕ} {cs : List (List ℕ)} → Through s h cs → Through s h ([] ∷ cs)
+unfoldable pub past : {s : FrameSplitter} {h : List ℕ} {cs : List (List ℕ)} → Through s h cs → Through s h ([] ∷ cs)
 past r = record { trace = r .trace; state = r .state; held = r .held; feeds = stream.Feeds.used (r .feeds) }
 
-one-chunk : (n : ℕ) (s : FrameSplitter) (h c : List ℕ) (cs : List (List ℕ)) → isBad s (length h) ≡ false → length c ≤ n
+unfoldable pub one-chunk : (n : ℕ) (s : FrameSplitter) (h c : List ℕ) (cs : List (List ℕ)) → isBad s (length h) ≡ false → length c ≤ n
     → ((s′ : FrameSplitter) (h′ : List ℕ) → isBad s′ (length h′) ≡ false → Through s′ h′ cs) → Through s h (c ∷ cs)
 one-chunk zero s h [] cs good l go = past (go s h good)
 one-chunk zero s h (x ∷ c) cs good l go = absurd (not-suc-le-zero l)
@@ -155,6 +155,6 @@ one-chunk (suc n) s h (x ∷ c) cs good l go =
     record { trace = _; state = r .state; held = r .held; feeds = stream.Feeds.feed (fedOf g) (g .held) (allowed s h (x ∷ c)) (r .feeds) }
 
 -- however a stream is cut into chunks, offering each untaken rest again comes to an end
-pub all-end : (cs : List (List ℕ)) (s : FrameSplitter) (h : List ℕ) → isBad s (length h) ≡ false → Through s h cs
+unfoldable pub all-end : (cs : List (List ℕ)) (s : FrameSplitter) (h : List ℕ) → isBad s (length h) ≡ false → Through s h cs
 all-end [] s h good = record { trace = []; state = s; held = h; feeds = stream.Feeds.done }
 all-end (c ∷ cs) s h good = one-chunk (length c) s h c cs good (omega arith) (λ s′ h′ g. all-end cs s′ h′ g)

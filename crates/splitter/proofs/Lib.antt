@@ -3,6 +3,8 @@ pub mod Laws
 pub mod Line
 pub mod Calls
 pub mod Stream
+pub mod Heard
 pub mod Rust
 pub mod One
+pub mod Contract
 pub mod Ends

@@ -1,17 +1,16 @@
 -- The line, byte by byte, with no state but the bytes w of the frame that is open: none between two frames.
 -- What it says at each byte is what the calls say, however they are cut (proofs/Calls). Assumes nothing.
-use mathlib.Core.Path.{_≡_, refl, sym, ap, _∙_}
-use mathlib.Core.Bool.{Bool, true, false, cond}
+use mathlib.Core.Path.{_≡_, refl, ap, _∙_}
+use mathlib.Core.Bool.{Bool, cond}
 use mathlib.Core.List.{List, [], _∷_, _++_, append-assoc, append-nil}
-use Prim.Native.Nat.{ℕ, zero, suc, _+_, _≤_, _<_, zero-le, suc-le-suc}
+use Prim.Native.Nat.{ℕ, zero, suc, _+_, _≤_, _<_}
 use native.Mathlib.Nat.{not-suc-le-zero, le-of-suc-le-suc, add-suc}
 use native.Mathlib.Numerals.{add-one}
 use lib.Dec.{eqb}
-use lib.ListN.{length, take, drop, replicate, replicate-append-replicate}
-use borrow.Author.Tests.{eqb-true}
+use lib.ListN.{length, take, replicate, replicate-append-replicate}
 use Rattle.error.proofs.Cases.{by-test}
 use Rattle.splitter.specs.Feed.{indexOf}
-use Rattle.splitter.specs.Stream.{Said, More, answers, atLast, answerTo}
+use Rattle.splitter.specs.Stream.{Said, More, atLast, answerTo}
 
 -- the open frame after one more byte
 abbrev pub after : List ℕ → ℕ → List ℕ
@@ -44,6 +43,10 @@ module _ (H : ℕ) where
   pub hear-append : (w x y : List ℕ) → hear H w (x ++ y) ≡ hear H w x ++ hear H (opened w x) y
   hear-append w [] y = refl
   hear-append w (b ∷ x) y = rw (hear-append (after w b) x y)
+
+  pub hear-length : (w x : List ℕ) → length (hear H w x) ≡ length x
+  hear-length w [] = refl
+  hear-length w (b ∷ x) = ap suc (hear-length (after w b) x)
 
 pub silent : (n : ℕ) → atLast n More ≡ silence n
 silent zero = refl

@@ -1,22 +1,22 @@
 -- However the stream is cut, for the Rust and for the port, the port's answers are the Rust's frames, those longer than H replaced.
 -- Assumes nothing.
 use mathlib.Core.Path.{_≡_, refl, sym, ap, _∙_}
-use mathlib.Core.Bool.{Bool, true, false, cond}
+use mathlib.Core.Bool.{false}
 use mathlib.Core.List.{List, [], _∷_, _++_, map, map-append}
-use Prim.Native.Nat.{ℕ, zero, suc, _+_, _≤_, _<_, zero-le}
+use Prim.Native.Nat.{ℕ, zero, suc, _+_, _≤_, _<_}
 use native.Mathlib.Omega.{arith}
 use native.Mathlib.Nat.{not-suc-le-zero}
 use native.Mathlib.Numerals.{add-one}
-use lib.Dec.{eqb, leb, ltb}
+use lib.Dec.{eqb, leb}
 use lib.ListN.{length, take, drop, length-drop, drop-of-length-le, take-append-drop}
 use lib.Seq.{drop-drop}
 use borrow.Author.Tests.{eqb-true, lt-ltb, le-ltb}
 use Rattle.error.proofs.Cases.{by-test, by-lt}
 use Rattle.splitter.specs.declared.FrameSplitter.{FrameSplitter}
 use Rattle.splitter.specs.Feed.{indexOf, new}
-use Rattle.splitter.specs.Rust.{Rust, left, push, toEnd, turn, turns, rustFeed, rustFrames}
-use Rattle.splitter.specs.Stream.{Said, More, Call, Calls, joined, unlessMore, answers, atLast, answerTo}
-use Rattle.splitter.proofs.Line.{after, opened, hear, silence, hear-append, opened-append}
+use Rattle.splitter.specs.Rust.{Rust, left, push, turn, turns, rustFeed, rustFrames}
+use Rattle.splitter.specs.Stream.{Call, Calls, joined, unlessMore, answers, atLast, answerTo}
+use Rattle.splitter.proofs.Line.{after, opened, hear, hear-append, opened-append}
 use Rattle.splitter.proofs.Calls.{stands-fresh, found, Closed, Unclosed, closes-at, goes-at}
 use Rattle.splitter.proofs.Stream.{follows, spoken, spoken-append, spoken-silence, spoken-last, answers-heard}
 
@@ -129,9 +129,10 @@ module _ (H : ℕ) where
       let rest : spoken (hear H (opened w d) (joined ds)) ≡ map (answerTo H) (rustFrames (opened w d) ds) = rust-says (opened w d) ds (begun w d k) in
       rw (hear-append, spoken-append, says, rest, leaves) (sym (map-append (answerTo H) (rustFeed w d .frames) (rustFrames (rustFeed w d .buf) ds)))
 
+pub line-says : (H : ℕ) (ds : List (List ℕ)) → spoken (hear H [] (joined ds)) ≡ map (answerTo H) (rustFrames [] ds)
+line-says H ds = rust-says H [] ds (record { quiet = refl; still = refl })
+
 -- The Rust is fed the data ds, one after the other; the port the same bytes, from fresh, cut in any way.
 pub as-the-rust : {h : List ℕ} {t : List Call} {s : FrameSplitter} {k : List ℕ} (ds : List (List ℕ)) → Calls new h (joined ds) t s k
     → answers t ≡ map (answerTo (length h)) (rustFrames [] ds)
-as-the-rust {h} {t} ds c =
-    let H = length h in
-    answers-heard t ∙ ap spoken (follows [] (stands-fresh new h) c .hears) ∙ rust-says H [] ds (record { quiet = refl; still = refl })
+as-the-rust {h} {t} ds c = answers-heard t ∙ ap spoken (follows [] (stands-fresh new h) c .hears) ∙ line-says (length h) ds

@@ -1,42 +1,46 @@
 -- Calls over a stream: what is heard, and what is held at the end, is the stream's alone, however it is cut.
 -- A call on bytes that are there takes at least one, so the calls come to an end. Assumes nothing.
 use mathlib.Core.Path.{_≡_, refl, sym, ap, _∙_}
-use mathlib.Core.Bool.{Bool, true, false, cond, not}
+use mathlib.Core.Bool.{cond, not}
 use mathlib.Core.List.{List, [], _∷_, _++_, append-assoc, append-nil}
-use Prim.Native.Nat.{ℕ, zero, suc, _≤_, _<_}
+use Prim.Native.Nat.{ℕ, zero, suc, _≤_}
 use native.Mathlib.Omega.{arith}
-use native.Mathlib.Nat.{not-suc-le-zero}
 use lib.Dec.{leb}
-use lib.ListN.{length, take, drop, length-take, length-drop, take-append-drop, replicate}
+use lib.ListN.{length, take, drop, length-take, take-append-drop}
 use lib.Seq.{take-take, length-take-le}
 use borrow.Author.Tests.{le-leb, lt-leb}
-use Rattle.error.specs.Refusal.{Told, yes, no}
-use Rattle.error.proofs.Cases.{by-test}
 use Rattle.splitter.specs.declared.FrameSplitter.{FrameSplitter}
-use Rattle.splitter.specs.declared.Fed.{Fed}
-use Rattle.splitter.specs.Feed.{Given, new, toldEvent, shown, feedRule}
-use Rattle.splitter.specs.Stream.{Said, More, Overlong, Frame, Refused, saidOf, Call, call, Calls, done, next, unlessMore, answers, atLast, heard, answerTo, Alike}
+use Rattle.splitter.specs.Feed.{new, toldEvent, shown}
+use Rattle.splitter.specs.Stream.{Said, More, Overlong, Frame, Refused, saidOf, Call, Calls, done, next, takenBy, unlessMore, answers, atLast, heard, Alike}
 use Rattle.splitter.proofs.Line.{opened, hear, silence, hear-append, opened-append}
 use Rattle.splitter.proofs.Calls.{Stands, fits, long, stands-fresh, Agrees, one-call}
 
 -- ---- the calls beside the line
 
--- all that some calls took
-abbrev pub takenBy : List Call → List ℕ
-takenBy [] = []
-takenBy (c ∷ t) = c .took ++ takenBy t
+-- a call that takes nothing says More
+abbrev pub Plain : List Call → Type 0
+Plain [] = Unit
+Plain (c ∷ t) = (c .took ≡ [] → c .said ≡ More) × Plain t
+
+only-more : (a : Said) → unlessMore a ≡ [] → a ≡ More
+only-more More e = refl
+only-more Overlong e = cc
+only-more (Frame w) e = cc
+only-more (Refused n vs) e = cc
 
 pub record Follows (h w b : List ℕ) (t : List Call) (s : FrameSplitter) (h′ : List ℕ) : Type 0 where
   pub hears : heard t ≡ hear (length h) w b
   pub takes : takenBy t ≡ b
+  pub plain : Plain t
   pub stands : Stands s h′ (opened w b)
   pub size : length h′ ≡ length h
 
 pub follows : {s s′ : FrameSplitter} {h h′ b : List ℕ} {t : List Call} (w : List ℕ) → Stands s h w → Calls s h b t s′ h′ → Follows h w b t s′ h′
-follows w k done = record { hears = refl; takes = refl; stands = k; size = refl }
+follows w k done = record { hears = refl; takes = refl; plain = tt; stands = k; size = refl }
 follows {h = h} {b = b} w k (next {t = t} n r h₁ e rest) =
     let c : List ℕ = take n b in
     let a : Agrees h c w (shown r h₁) = rw e (one-call w c k) in
+    let said : Said = saidOf c h₁ (toldEvent (r .event)) in
     let m : List ℕ = take (r .taken) b in
     let d : List ℕ = drop (r .taken) b in
     let le : r .taken ≤ n = omega (arith, a .within, length-take n b) in
@@ -47,6 +51,7 @@ follows {h = h} {b = b} w k (next {t = t} n r h₁ e rest) =
     record {
       hears = rw (size, a .heard, same, f .hears, a .size) (sym (hear-append (length h) w m d) ∙ ap (hear (length h) w) all);
       takes = ap (λ (x : List ℕ). m ++ x) (f .takes) ∙ all;
+      plain = (λ z. only-more said (ap (λ (x : ℕ). atLast x said) (sym (ap length z) ∙ size) ∙ a .heard ∙ ap (hear (length h) w) (same ∙ z)), f .plain);
       stands = rw (ap (opened w) (sym all) ∙ opened-append w m d) (f .stands);
       size = f .size ∙ a .size;
     }

@@ -53,6 +53,11 @@ abbrev pub joined : List (List ℕ) → List ℕ
 joined [] = []
 joined (c ∷ cs) = c ++ joined cs
 
+-- all that some calls took
+abbrev pub takenBy : List Call → List ℕ
+takenBy [] = []
+takenBy (c ∷ t) = c .took ++ takenBy t
+
 -- ---- what is heard
 
 -- all answers of some calls but More

@@ -4,3 +4,5 @@ pub mod Stuffing
 pub mod Sums
 pub mod Unstuffing
 pub mod Proper
+pub mod Parting
+pub mod Blocks

@@ -17,7 +17,7 @@ use Rattle.stuffing.specs.Unstuff.{escapeAt, stepAt, after, unstuff}
 use Rattle.stuffing.proofs.Unstuffing.{step-plain, step-escape}
 
 -- what it unstuffs to, its first byte being at offset i
-pub units : (i : ℕ) {s : List ℕ} → Proper s → List (ℕ × ℕ)
+unfoldable pub units : (i : ℕ) {s : List ℕ} → Proper s → List (ℕ × ℕ)
 units i none = []
 units i (byte {b} h p) = (b, i) ∷ units (i + 1) p
 units i (escape {c = c} e h p) = (unescapeOf c, i) ∷ units (i + 2) p

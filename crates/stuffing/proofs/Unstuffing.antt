@@ -14,14 +14,11 @@ use borrow.Author.Tests.{eq-eqb, ne-eqb}
 use Rattle.error.specs.Refusal.{Told, yes, no, onYes}
 use Rattle.error.proofs.Cases.{by-test, by-eq}
 use Rattle.stuffing.specs.Stuff.{escapeOf, unescapeOf, stuffByte, stuff}
+use Rattle.stuffing.specs.Proper.{widthOf}
 use Rattle.stuffing.specs.Unstuff.{escapeAt, stepAt, after, unstuff, bytesOf, offsetAt}
 use Rattle.stuffing.proofs.Codes.{plain, escaped, unescape-escape}
 
 -- ---- a step of unstuffing
-
--- how many bytes it takes
-abbrev pub widthOf : ℕ → ℕ
-widthOf b = cond (eqb b 0xFD) 2 1
 
 pub width-most : (b : ℕ) → (1 ≤ widthOf b) × (widthOf b ≤ 2)
 width-most b = by-test (eqb b 0xFD) (λ e. rw e (omega arith, omega arith)) (λ e. rw e (omega arith, omega arith))

@@ -16,3 +16,13 @@ pub data Proper : List ℕ → Type 0 where
 abbrev pub kept : List ℕ → ℕ
 kept [] = 0
 kept (b ∷ l) = cond (eqb b 0xFD) 0 1 + kept l
+
+-- how many bytes the step at a byte takes: FD and its code are two
+abbrev pub widthOf : ℕ → ℕ
+widthOf b = cond (eqb b 0xFD) 2 1
+
+-- the unstuffed byte that a proper string starts with
+abbrev pub valueOf : List ℕ → ℕ
+valueOf [] = 0
+valueOf (b ∷ []) = b
+valueOf (b ∷ c ∷ l) = cond (eqb b 0xFD) (unescapeOf c) b

@@ -8,7 +8,7 @@ use borrow.Author.Tests.{leb-true}
 use Rattle.error.specs.Refusal.{no}
 use Rattle.integer.specs.Fields.{bytesOf, needAt}
 use Rattle.integer.proofs.Bytes.{length-bytes}
-use Rattle.integer.proofs.Reading.{writes, no-room}
+use Rattle.integer.proofs.Reading.{writes-where, no-room-where}
 use Rattle.integer.proofs.write_be.Statement.{statement}
 use Rattle.integer.proofs.write_be.Tie as tie
 
@@ -27,7 +27,7 @@ returns : tie.Need-returns
 returns c =
     let test = c .before .before .before .before in
     let a = test .before .before .before .args in
-    let w = writes (bytesOf (a .k) (a .n)) (a .buf .now) (a .offset) (rw length-bytes (sym (test .before .within .ensures) ∙ test .if1 .taken)) in
+    let w = writes-where (bytesOf (a .k) (a .n)) (a .buf .now) (a .offset) (rw length-bytes (sym (test .before .within .ensures) ∙ test .if1 .taken)) in
     (sym (w .0), c .before .before .put-be .ensures ∙ sym (w .1))
 
 need-at-requires : tie.Need-need-at-requires
@@ -36,7 +36,7 @@ need-at-requires c κs = search needs
 returns-2 : tie.Need-returns-2
 returns-2 c =
     let a = c .before .before .before .before .args in
-    let w = no-room (bytesOf (a .k) (a .n)) (a .buf .now) (a .offset) (rw length-bytes (sym (c .before .before .within .ensures) ∙ c .before .if1 .left)) in
+    let w = no-room-where (bytesOf (a .k) (a .n)) (a .buf .now) (a .offset) (rw length-bytes (sym (c .before .before .within .ensures) ∙ c .before .if1 .left)) in
     let e : c .need-at .result ≡ needAt (length (bytesOf (a .k) (a .n))) (a .offset) = rw length-bytes (c .need-at .ensures) in
     (ap (λ (n : ℕ). no 8 (n ∷ length (a .buf .now) ∷ [])) e ∙ sym (w .0), sym (w .1))
 

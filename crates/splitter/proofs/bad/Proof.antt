@@ -1,5 +1,5 @@
 -- `splitter::bad` meets its contract. Assumes nothing.
-use borrow.Author.Tests.{lt-ltb, le-ltb, eq-eqb, ne-eqb}
+use borrow.Author.Tests.{lt-ltb, le-ltb}
 use Rattle.splitter.proofs.bad.Statement.{statement}
 use Rattle.splitter.proofs.bad.Tie as tie
 

@@ -1,12 +1,11 @@
 -- `has` meets its contract. The loop's invariant: where there was no hit, what is sought from i on is what is sought from i + k on.
 -- Assumes nothing.
-use mathlib.Core.Path.{_≡_, refl, sym, ap, _∙_}
+use mathlib.Core.Path.{_≡_, sym, ap, _∙_}
 use mathlib.Core.Bool.{true, false}
 use mathlib.Core.Logic.{⊎-elim}
-use Prim.Native.Nat.{ℕ, _+_, _-_, _≤_, _<_}
+use Prim.Native.Nat.{ℕ, _+_, _-_, _≤_}
 use native.Mathlib.Omega.{arith}
 use native.Mathlib.Nat.{add-zero}
-use lib.ListN.{length}
 use Rattle.splitter.specs.Feed.{firstFrom}
 use Rattle.splitter.proofs.Laws.{first-miss}
 use Rattle.splitter.proofs.has.Statement.{statement}

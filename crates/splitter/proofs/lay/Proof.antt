@@ -1,12 +1,11 @@
 -- `splitter::lay` meets its contract. The loop's invariant: dst is its first self with the first i bytes of src pasted in.
 -- Assumes nothing.
-use mathlib.Core.Path.{_≡_, refl, sym, ap, _∙_}
-use mathlib.Core.List.{List}
-use Prim.Native.Nat.{ℕ, _+_, _-_, _≤_, _<_}
+use mathlib.Core.Path.{_≡_, refl, _∙_}
+use Prim.Native.Nat.{_-_, _≤_}
 use native.Mathlib.Numerals.{add-one}
 use native.Mathlib.Omega.{arith}
-use lib.ListN.{length, take, drop, getD, set, length-set}
-use lib.Seq.{paste, paste-zero, paste-suc, take-length}
+use lib.ListN.{length, length-set}
+use lib.Seq.{paste, paste-zero, paste-suc}
 use Rattle.splitter.proofs.Laws.{paste-all}
 use Rattle.splitter.proofs.lay.Statement.{statement}
 use Rattle.splitter.proofs.lay.Tie as tie

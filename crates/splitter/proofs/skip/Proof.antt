@@ -1,7 +1,7 @@
 -- `skip` meets its contract. The loop's invariant: what is sought from `from` on is what is sought from i on.
 -- Assumes nothing.
 use mathlib.Core.Path.{_≡_, refl, _∙_}
-use Prim.Native.Nat.{ℕ, _+_, _-_, _≤_, _<_}
+use Prim.Native.Nat.{_-_, _≤_}
 use native.Mathlib.Omega.{arith}
 use lib.ListN.{length}
 use Rattle.splitter.specs.Feed.{firstFrom}

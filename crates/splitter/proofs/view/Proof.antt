@@ -1,6 +1,5 @@
 -- `splitter::view` meets its contract: at each `return` the tests that led there say which case of `viewRule` holds.
 -- Assumes nothing.
-use mathlib.Core.Path.{_≡_, sym, _∙_}
 use mathlib.Core.Logic.{⊎-elim}
 use Prim.Native.Nat.{_+_, _<_, _≤_}
 use native.Mathlib.Omega.{arith}

@@ -8,8 +8,9 @@ use native.Mathlib.Omega.{arith}
 use lib.Dec.{eqb}
 use lib.ListN.{length, drop, getD, drop-of-length-le}
 use Rattle.error.specs.Refusal.{Told, yes, no, onYes}
+use Rattle.stuffing.specs.Proper.{widthOf}
 use Rattle.stuffing.specs.Unstuff.{toldU8, stepAt, after, unstuff}
-use Rattle.stuffing.proofs.Unstuffing.{widthOf, width-most, unstuff-at}
+use Rattle.stuffing.proofs.Unstuffing.{width-most, unstuff-at}
 use Rattle.stuffing.proofs.count.Statement.{statement}
 use Rattle.stuffing.proofs.count.Tie as tie
 

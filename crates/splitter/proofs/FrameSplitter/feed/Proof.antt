@@ -1,11 +1,7 @@
 -- `FrameSplitter::feed` meets its contract: what its callees ensure, put together by the laws of `feedRule`.
 -- Assumes nothing.
-use mathlib.Core.Path.{_≡_, sym, _∙_}
-use mathlib.Core.Bool.{true, false}
-use Prim.Native.Nat.{_<_, _≤_}
+use mathlib.Core.Path.{sym, _∙_}
 use native.Mathlib.Omega.{arith}
-use lib.ListN.{length}
-use Rattle.splitter.specs.Feed.{isBad, startIn, firstFrom}
 use Rattle.splitter.proofs.Laws.{not-bad, feed-bad, feed-ends, feed-goes-on}
 use borrow.Author.Needs.{needs}
 use Rattle.splitter.proofs.FrameSplitter.feed.Statement.{statement}

@@ -8,9 +8,9 @@ use lib.ListN.{length, take, drop, length-append, length-drop}
 use lib.Seq.{sets, length-sets, length-take-le, take-all}
 use Rattle.stuffing.specs.Stuff.{stuff}
 use Rattle.stuffing.proofs.Stuffing.{stuff-part}
-use Rattle.frame.proofs.Stores.{sets-append}
-use Rattle.frame.proofs.put_all.Statement.{statement}
-use Rattle.frame.proofs.put_all.Tie as tie
+use Rattle.encoding.proofs.Stores.{sets-append}
+use Rattle.encoding.proofs.put_all.Statement.{statement}
+use Rattle.encoding.proofs.put_all.Tie as tie
 
 abbrev Inv-loop : tie.InvT-loop
 Inv-loop s buf₀ at i₀ o₀ buf i o =

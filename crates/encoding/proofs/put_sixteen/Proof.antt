@@ -1,15 +1,23 @@
 -- `put_sixteen` meets its contract: a block with no code is its own stuffed form.
 use borrow.Author.Needs.{needs}
+use borrow.Author.Tests.{le-leb}
 use mathlib.Core.Path.{_≡_, sym, ap, _∙_}
 use Prim.Native.Nat.{_+_}
 use native.Mathlib.Omega.{arith}
-use lib.ListN.{length}
+use lib.ListN.{length, replicate}
+use lib.Seq.{take-at}
 use Rattle.stuffing.specs.Stuff.{stuff}
-use Rattle.frame.proofs.put_sixteen.Statement.{statement}
-use Rattle.frame.proofs.put_sixteen.Tie as tie
+use Rattle.encoding.proofs.put_sixteen.Statement.{statement}
+use Rattle.encoding.proofs.put_sixteen.Tie as tie
+
+-- the block is the string
+is-block : (c : tie.After-block) → c .block .result ≡ c .before .before .before .args .s .now
+is-block c =
+    let a = c .before .before .before in
+    c .block .ensures ∙ take-at (a .args .s .now) (replicate 16 0) 16 (a .pre .0)
 
 same : (c : tie.Then1) → stuff (c .before .before .before .before .before .args .s .now) ≡ c .before .before .before .before .before .args .s .now
-same c = rw (c .before .before .block .ensures) at (c .before .codes .ensures (c .if1 .taken))
+same c = rw (is-block (c .before .before)) at (c .before .codes .ensures (c .if1 .taken))
 
 block-requires : tie.Need-block-requires
 block-requires c κs = search needs
@@ -18,7 +26,7 @@ codes-requires : tie.Need-codes-requires
 codes-requires c κs = search needs
 
 put-block-requires : tie.Need-put-block-requires
-put-block-requires c κs = omega (arith, ap length (same (c .before)))
+put-block-requires c κs = search needs
 
 add-result : tie.Need-add-result
 add-result c = search needs
@@ -30,7 +38,9 @@ returns : tie.Need-returns
 returns c =
     let p = c .before .before in
     let i = p .before .before in
-    rw (same i) (omega arith, p .put-block .ensures ∙ rw (i .before .before .block .ensures))
+    let a = i .before .before .before .before .before in
+    let room = le-leb (a .args .at + 16) (length (a .args .buf .now)) (omega (arith, ap length (same i), a .pre .0, a .pre .1)) in
+    rw (same i) (omega (arith, a .pre .0), p .put-block .ensures ∙ rw (room, is-block (i .before .before)))
 
 put-each-requires : tie.Need-put-each-requires
 put-each-requires c κs = search needs

@@ -19,10 +19,6 @@ pub sets-append : (a b l : List ℕ) (i : ℕ) → sets (sets l i a) (i + length
 sets-append [] b l i = rw add-zero
 sets-append (x ∷ a) b l i = rw (add-suc, ← suc-add) (sets-append a b (set l i x) (suc i))
 
--- the stores of a from its byte k on
-pub sets-from : (a l : List ℕ) (at k : ℕ) → k < length a → sets (set l (at + k) (getD a k 0)) (at + (k + 1)) (drop (k + 1) a) ≡ sets l (at + k) (drop k a)
-sets-from a l at k h = rw (drop-cons a k 0 h, add-one, add-suc)
-
 -- a run of stores from the front: the list, and what was behind it
 pub front : (w old : List ℕ) → length w ≤ length old → sets old 0 w ≡ w ++ drop (length w) old
 front w old h = sets-eq w old 0 (rw zero-add h) ∙ rw zero-add

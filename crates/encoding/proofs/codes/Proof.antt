@@ -13,8 +13,8 @@ use Rattle.stuffing.specs.Stuff.{escapeOf, stuff}
 use Rattle.stuffing.proofs.Codes.{plain}
 use Rattle.stuffing.proofs.Stuffing.{stuff-append}
 use Rattle.stuffing.proofs.Proper.{both-zero}
-use Rattle.frame.proofs.codes.Statement.{statement}
-use Rattle.frame.proofs.codes.Tie as tie
+use Rattle.encoding.proofs.codes.Statement.{statement}
+use Rattle.encoding.proofs.codes.Tie as tie
 
 abbrev Inv-loop : tie.InvT-loop
 Inv-loop a all₀ k₀ all k =

@@ -1,0 +1,4 @@
+-- What encoding is proved by.
+pub mod Cases
+pub mod Stores
+pub mod Writing

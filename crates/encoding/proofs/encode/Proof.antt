@@ -1,0 +1,52 @@
+-- `RawFrame::encode` meets its contract: each return is the rule's case.
+use borrow.Author.Needs.{needs}
+use mathlib.Core.Path.{_≡_, refl, sym, ap, _∙_}
+use Prim.Native.Nat.{ℕ, _≤_}
+use lib.ListN.{length}
+use Rattle.error.specs.Refusal.{yes}
+use Rattle.encoding.specs.Wire.{Fields, fields, wireOf}
+use Rattle.encoding.proofs.Cases.{encode-long, encode-room, encode-fits}
+use Rattle.encoding.proofs.Stores.{front}
+use Rattle.encoding.proofs.encode.Statement.{statement}
+use Rattle.encoding.proofs.encode.Tie as tie
+
+abbrev frameOf : tie.Start → Fields
+frameOf a = fields (a .args .dest) (a .args .src) (a .args .type-id) (a .args .payload .now)
+
+returns : tie.Need-returns
+returns c =
+    let a = c .before .before .before in
+    rw (encode-long (frameOf a) (length (a .args .wire .now)) (c .if1 .taken)) (refl, refl)
+
+measure-requires : tie.Need-measure-requires
+measure-requires c κs = search needs
+
+returns-2 : tie.Need-returns-2
+returns-2 c =
+    let m = c .before in
+    let i = m .before in
+    let a = i .before .before .before in
+    let e = m .measure .ensures .0 in
+    rw (encode-room (frameOf a) (length (a .args .wire .now)) (i .if1 .left) (rw (← e) (c .if2 .taken)), ← e) (refl, refl)
+
+put-wire-requires : tie.Need-put-wire-requires
+put-wire-requires c κs = search needs
+
+same-length : tie.Need-same-length
+same-length c = search needs
+
+returns-3 : tie.Need-returns-3
+returns-3 c =
+    let p = c .before .before in
+    let f = p .before .before in
+    let m = f .before in
+    let i = m .before in
+    let a = i .before .before .before in
+    let e = m .measure .ensures .0 in
+    let room : length (wireOf (frameOf a)) ≤ length (a .args .wire .now) = rw (← e) (f .if2 .left) in
+    rw (encode-fits (frameOf a) (length (a .args .wire .now)) (i .if1 .left) room)
+    (ap yes e, p .put-wire .ensures ∙ front (wireOf (frameOf a)) (a .args .wire .now) room)
+
+pub encode-spec : {M : Type 1} → statement M
+encode-spec =
+    tie.close (tie.spec returns measure-requires returns-2 put-wire-requires same-length returns-3)

@@ -1,0 +1,152 @@
+// Encoding of frame.rs: the wire of a frame, written at the front of a lent buffer.
+// `encode` answers and writes what specs/Encode says; the checksum runs over the stuffed bytes, sixteen of which are written at once.
+ghost use mathlib.Core.Path.{_≡_};
+ghost use mathlib.Core.List.{List};
+ghost use Prim.Native.Nat.{ℕ, _+_, _≤_};
+ghost use lib.ListN.{length};
+ghost use lib.Seq.{sets};
+ghost use Rattle.error.specs.Refusal.{onYes};
+ghost use Rattle.error.specs.Result.{toldUsize};
+ghost use Rattle.stuffing.specs.Stuff.{stuffByte, stuff};
+ghost use Rattle.encoding.specs.Wire.{fields, csOf, wireOf};
+ghost use Rattle.encoding.specs.Encode.{filled, encodeRule};
+use addr::BusAddr;
+use error::ResultUsize;
+use error::WireError;
+use stuffing::block;
+use stuffing::escape_code;
+use stuffing::put_block;
+use stuffing::select;
+use stuffing::tally;
+
+const START: u8 = 0xF0;
+
+const END: u8 = 0xF1;
+
+const ESC: u8 = 0xFD;
+
+// 0 where no byte of the block has a code.
+fn codes(a: [u8; 16]) -> u8
+    ensures { λ r. ⌜ (r ≡ 0 → stuff a ≡ a) ⌝ }
+{
+    let mut all: u8 = 0;
+    let mut k = 0;
+    while k < 16 {
+        all = all | escape_code(a[k]);
+        k += 1;
+    }
+    all
+}
+
+// ---- writing: each stuffs at a place of the buffer and answers the place after it
+
+fn put_byte(b: u8, buf: &mut [u8], at: usize) -> usize
+    requires { ⌜ at + length (stuffByte b) ≤ length (now buf) ⌝ }
+    ensures { λ r. ⌜ (r ≡ at + length (stuffByte b)) × (now (buf .exit) ≡ sets (now (buf .entry)) at (stuffByte b)) ⌝ }
+{
+    let code = escape_code(b);
+    let last = at + select(code, 0, 0, 1) as usize;
+    buf[at] = select(code, 0, b, ESC);
+    buf[last] = select(code, 0, b, code);
+    last + 1
+}
+
+fn put_each(s: &[u8], buf: &mut [u8], at: usize) -> usize
+    requires { ⌜ at + length (stuff (now s)) ≤ length (now buf) ⌝ }
+    ensures { λ r. ⌜ (r ≡ at + length (stuff (now (s .entry)))) × (now (buf .exit) ≡ sets (now (buf .entry)) at (stuff (now (s .entry)))) ⌝ }
+{
+    let mut i = 0;
+    let mut o = at;
+    while i < s.len() {
+        o = put_byte(s[i], buf, o);
+        i += 1;
+    }
+    o
+}
+
+// The same of sixteen bytes: if none of them has a code, they are copied as they stand.
+fn put_sixteen(s: &[u8], buf: &mut [u8], at: usize) -> usize
+    requires { ⌜ (length (now s) ≡ 16) × (at + length (stuff (now s)) ≤ length (now buf)) ⌝ }
+    ensures { λ r. ⌜ (r ≡ at + length (stuff (now (s .entry)))) × (now (buf .exit) ≡ sets (now (buf .entry)) at (stuff (now (s .entry)))) ⌝ }
+{
+    let a = block(s);
+    if codes(a) == 0 {
+        put_block(a, buf, at);
+        return at + 16;
+    }
+    put_each(s, buf, at)
+}
+
+fn put_all(s: &[u8], buf: &mut [u8], at: usize) -> usize
+    requires { ⌜ at + length (stuff (now s)) ≤ length (now buf) ⌝ }
+    ensures { λ r. ⌜ (r ≡ at + length (stuff (now (s .entry)))) × (now (buf .exit) ≡ sets (now (buf .entry)) at (stuff (now (s .entry)))) ⌝ }
+{
+    let mut i = 0;
+    let mut o = at;
+    while s.len() - i >= 16 {
+        o = put_sixteen(&s[i..i + 16], buf, o);
+        i += 16;
+    }
+    put_each(&s[i..], buf, o)
+}
+
+// The whole wire's length, and the checksum.
+struct Plan {
+    need: usize,
+    cs: u16,
+}
+
+fn measure(dest: BusAddr, src: BusAddr, type_id: u8, payload: &[u8]) -> Plan
+    requires { ⌜ length (now payload) ≤ 65535 ⌝ }
+    ensures need { λ r. ⌜ r .need ≡ length (wireOf (fields dest src «type_id» (now (payload .entry)))) ⌝ }
+    ensures cs { λ r. ⌜ r .cs ≡ csOf (fields dest src «type_id» (now (payload .entry))) ⌝ }
+{
+    let head = [dest.as_byte(), src.as_byte(), type_id];
+    let h = tally(&head);
+    let p = tally(payload);
+    let cs = std::num::wrapping_add_u16(h.sum, p.sum);
+    let tail = [(cs / 256) as u8, (cs % 256) as u8];
+    let t = tally(&tail);
+    Plan {
+        need: payload.len() + 7 + h.more as usize + p.more as usize + t.more as usize,
+        cs,
+    }
+}
+
+fn put_wire(dest: BusAddr, src: BusAddr, type_id: u8, payload: &[u8], cs: u16, wire: &mut [u8])
+    requires { ⌜ (cs ≡ csOf (fields dest src «type_id» (now payload))) × (length (wireOf (fields dest src «type_id» (now payload))) ≤ length (now wire)) ⌝ }
+    ensures { λ r. ⌜ now (wire .exit) ≡ sets (now (wire .entry)) 0 (wireOf (fields dest src «type_id» (now (payload .entry)))) ⌝ }
+{
+    let head = [dest.as_byte(), src.as_byte(), type_id];
+    let tail = [(cs / 256) as u8, (cs % 256) as u8];
+    wire[0] = START;
+    let at_payload = put_each(&head, wire, 1);
+    let at_cs = put_all(payload, wire, at_payload);
+    let at_end = put_each(&tail, wire, at_cs);
+    wire[at_end] = END;
+}
+
+// The wire of a frame at the buffer's front, and its length.
+pub fn encode(
+    dest: BusAddr,
+    src: BusAddr,
+    type_id: u8,
+    payload: &[u8],
+    wire: &mut [u8],
+) -> ResultUsize
+    ensures reply { λ r. ⌜ toldUsize r ≡ onYes length (encodeRule (fields dest src «type_id» (now (payload .entry))) (length (now (wire .entry)))) ⌝ }
+    ensures bytes { λ r. ⌜ now (wire .exit) ≡ filled (encodeRule (fields dest src «type_id» (now (payload .entry))) (length (now (wire .entry)))) (now (wire .entry)) ⌝ }
+{
+    let n = payload.len();
+    if n > 65535 {
+        return ResultUsize::Err(WireError::PayloadTooLong { len: n });
+    }
+    let plan = measure(dest, src, type_id, payload);
+    let need = plan.need;
+    let room = wire.len();
+    if room < need {
+        return ResultUsize::Err(WireError::NoRoom { need, got: room });
+    }
+    put_wire(dest, src, type_id, payload, plan.cs, wire);
+    ResultUsize::Ok(need)
+}

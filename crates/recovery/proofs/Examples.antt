@@ -1,0 +1,70 @@
+-- Three lines worked out, each cut in the middle of a frame: noise with no start pending, noise with one, and a frame exactly as long as
+-- the hold buffer. The frame is document 01's (a). Assumes nothing.
+use mathlib.Core.Path.{_≡_, refl}
+use mathlib.Core.List.{List, [], _∷_}
+use Prim.Native.Nat.{ℕ}
+use lib.ListN.{replicate}
+use Rattle.splitter.specs.Feed.{new, indexOf, ends, goesOn, runs, feedRule}
+use Rattle.splitter.specs.Stream.{More, Overlong, Frame, Call, call}
+use Rattle.splitter.proofs.Calls.{stands-fresh, stands-good}
+use Rattle.splitter.proofs.One.{eventOf}
+use Rattle.splitter.proofs.Ends.{past, one-chunk, all-end}
+use Rattle.recovery.specs.Recovery.{pending}
+
+abbrev a : List ℕ
+a = 0xF0 ∷ 0x40 ∷ 0x10 ∷ 0x01 ∷ 0x00 ∷ 0x51 ∷ 0xF1 ∷ []
+
+-- the calls over some chunks, from fresh, with a hold buffer of H bytes
+abbrev over : ℕ → List (List ℕ) → List Call
+over H cs = all-end cs new (replicate H 0) (stands-good (stands-fresh new (replicate H 0))) .trace
+
+-- ---- F0 05 F1 is a frame of the noise, and 07 is dropped
+
+closed : pending (0x00 ∷ 0xF1 ∷ 0xF0 ∷ 0x05 ∷ 0xF1 ∷ 0x07 ∷ []) ≡ []
+closed = refl
+
+after-closed :
+    over 16 ((0x00 ∷ 0xF1 ∷ 0xF0 ∷ 0x05 ∷ []) ∷ (0xF1 ∷ 0x07 ∷ 0xF0 ∷ 0x40 ∷ 0x10 ∷ []) ∷ (0x01 ∷ 0x00 ∷ 0x51 ∷ 0xF1 ∷ a) ∷ []) ≡
+    call (0x00 ∷ 0xF1 ∷ 0xF0 ∷ 0x05 ∷ []) More
+    ∷ call (0xF1 ∷ []) (Frame (0xF0 ∷ 0x05 ∷ 0xF1 ∷ []))
+    ∷ call (0x07 ∷ 0xF0 ∷ 0x40 ∷ 0x10 ∷ []) More
+    ∷ call (0x01 ∷ 0x00 ∷ 0x51 ∷ 0xF1 ∷ []) (Frame a)
+    ∷ call a (Frame a)
+    ∷ []
+unfolding indexOf ends goesOn runs feedRule eventOf past one-chunk all-end
+after-closed = refl
+
+-- ---- F0 05 has no end: with the first frame it is one of nine bytes
+
+unclosed : pending (0x00 ∷ 0xF0 ∷ 0x05 ∷ []) ≡ 0xF0 ∷ 0x05 ∷ []
+unclosed = refl
+
+after-unclosed :
+    over 9 ((0x00 ∷ 0xF0 ∷ 0x05 ∷ 0xF0 ∷ 0x40 ∷ []) ∷ (0x10 ∷ 0x01 ∷ 0x00 ∷ 0x51 ∷ 0xF1 ∷ a) ∷ []) ≡
+    call (0x00 ∷ 0xF0 ∷ 0x05 ∷ 0xF0 ∷ 0x40 ∷ []) More
+    ∷ call (0x10 ∷ 0x01 ∷ 0x00 ∷ 0x51 ∷ 0xF1 ∷ []) (Frame (0xF0 ∷ 0x05 ∷ a))
+    ∷ call a (Frame a)
+    ∷ []
+unfolding indexOf ends goesOn runs feedRule eventOf past one-chunk all-end
+after-unclosed = refl
+
+after-unclosed-long :
+    over 8 ((0x00 ∷ 0xF0 ∷ 0x05 ∷ 0xF0 ∷ 0x40 ∷ []) ∷ (0x10 ∷ 0x01 ∷ 0x00 ∷ 0x51 ∷ 0xF1 ∷ a) ∷ []) ≡
+    call (0x00 ∷ 0xF0 ∷ 0x05 ∷ 0xF0 ∷ 0x40 ∷ []) More
+    ∷ call (0x10 ∷ 0x01 ∷ 0x00 ∷ 0x51 ∷ 0xF1 ∷ []) Overlong
+    ∷ call a (Frame a)
+    ∷ []
+unfolding indexOf ends goesOn runs feedRule eventOf past one-chunk all-end
+after-unclosed-long = refl
+
+-- ---- seven bytes in a hold buffer of seven, and of six
+
+exactly : over 7 ((0xF0 ∷ 0x40 ∷ 0x10 ∷ []) ∷ (0x01 ∷ 0x00 ∷ 0x51 ∷ 0xF1 ∷ []) ∷ []) ≡
+    call (0xF0 ∷ 0x40 ∷ 0x10 ∷ []) More ∷ call (0x01 ∷ 0x00 ∷ 0x51 ∷ 0xF1 ∷ []) (Frame a) ∷ []
+unfolding indexOf ends goesOn runs feedRule eventOf past one-chunk all-end
+exactly = refl
+
+one-less : over 6 ((0xF0 ∷ 0x40 ∷ 0x10 ∷ []) ∷ (0x01 ∷ 0x00 ∷ 0x51 ∷ 0xF1 ∷ []) ∷ []) ≡
+    call (0xF0 ∷ 0x40 ∷ 0x10 ∷ []) More ∷ call (0x01 ∷ 0x00 ∷ 0x51 ∷ 0xF1 ∷ []) Overlong ∷ []
+unfolding indexOf ends goesOn runs feedRule eventOf past one-chunk all-end
+one-less = refl

@@ -1,0 +1,2 @@
+-- The statement of condition 3.
+pub mod Recovery
