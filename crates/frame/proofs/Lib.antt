@@ -1,5 +1,8 @@
 -- What the frame rules imply.
 pub mod Cases
+pub mod Walking
+pub mod Reading
+pub mod Checked
 pub mod Wires
 pub mod Round
 pub mod Examples

@@ -6,6 +6,7 @@ use mathlib.Core.List.{List, [], _∷_, _++_}
 use lib.Dec.{eqb, ltb}
 use lib.ListN.{length, getD, take, drop}
 use Rattle.error.specs.Refusal.{Told, yes, no, refused}
+use Rattle.addr.specs.declared.BusAddr.{BusAddr}
 use Rattle.addr.specs.Address.{addressRule}
 use Rattle.stuffing.specs.Stuff.{sum16}
 use Rattle.stuffing.specs.Unstuff.{unstuff, bytesOf, byteAt, offsetAt}
@@ -65,8 +66,11 @@ unfoldable pub parseRule : List ℕ → ℕ → Told Fields
 parseRule wire room = then (checkRule wire) (roomRule room)
 
 -- a frame as it is answered: its payload stands in the lent buffer, and its length here
+abbrev pub rawFrame : BusAddr → BusAddr → ℕ → ℕ → RawFrame
+rawFrame dest src type len = record { dest = dest; src = src; «type_id» = type; len = len }
+
 abbrev pub headerOf : Fields → RawFrame
-headerOf f = record { dest = f .dest; src = f .src; «type_id» = f .type; len = length (f .payload) }
+headerOf f = rawFrame (f .dest) (f .src) (f .type) (length (f .payload))
 
 abbrev pub toldRawFrame : ResultRawFrame → Told RawFrame
 toldRawFrame (Ok r) = yes r

@@ -3,7 +3,7 @@
 use Prim.Native.Nat.{ℕ, _≤_, _<_}
 use mathlib.Core.Path.{_≡_, sym, _∙_}
 use mathlib.Core.List.{List}
-use lib.ListN.{length}
+use lib.ListN.{length, take}
 use borrow.Author.Tests.{lt-ltb, le-ltb}
 use Rattle.error.specs.Refusal.{Told, yes, refused}
 use Rattle.error.specs.Result.{toldUnit}
@@ -18,7 +18,7 @@ module _ {R : Type 0} (table : Source → R) (kind least : ℕ) (p : List ℕ) w
   unfolding answered sourceOf
   short h e = (rw (lt-ltb (length p) least h), rw (lt-ltb (length p) least h) e)
 
-  pub whole : {r : R} → least ≤ length p → r ≡ table (fieldsOf p)
+  pub whole : {r : R} → least ≤ length p → r ≡ table (fieldsOf (take least p))
       → (yes tt ≡ answered kind least p) × (r ≡ table (sourceOf least p))
   unfolding answered sourceOf
   whole h e = (rw (le-ltb (length p) least h), rw (le-ltb (length p) least h) e)

@@ -1,3 +1,4 @@
 -- What the proofs of every decoder use.
 pub mod Held
 pub mod Lengths
+pub mod Parts

@@ -4,7 +4,7 @@ use Prim.Native.Nat.{ℕ, zero, suc}
 use mathlib.Core.Bool.{cond, false}
 use mathlib.Core.List.{List, [], _∷_}
 use lib.Dec.{ltb}
-use lib.ListN.{length, getD}
+use lib.ListN.{length, getD, take}
 use lib.IntN.{ℤ, pos}
 use lib.Ieee.{Float, fin, binary64, ofInt}
 use Rattle.error.specs.Refusal.{Told, yes, no}
@@ -35,12 +35,12 @@ fieldsOf p =
 abbrev pub zeros : Source
 zeros = record { byte = λ at. 0; int = λ k at. pos 0; uint = λ k at. 0; figure = λ f k at. fin false 0 (pos 0) }
 
--- a message that wants so many bytes: the answer, and what its record is read from
+-- a message that wants so many bytes: the answer, and what its record is read from, the first so many
 unfoldable pub answered : ℕ → ℕ → List ℕ → Told Unit
 answered kind least p = cond (ltb (length p) least) (no 7 (kind ∷ least ∷ length p ∷ [])) (yes tt)
 
 unfoldable pub sourceOf : ℕ → List ℕ → Source
-sourceOf least p = cond (ltb (length p) least) zeros (fieldsOf p)
+sourceOf least p = cond (ltb (length p) least) zeros (fieldsOf (take least p))
 
 -- n values in a row
 abbrev pub row : {A : Type 0} → ℕ → (ℕ → A) → List A

@@ -3,6 +3,7 @@
 use mathlib.Core.Path.{_≡_, sym, ap, _∙_}
 use mathlib.Core.List.{List, _++_}
 use Prim.Native.Nat.{ℕ, _≤_}
+use native.Mathlib.Omega.{arith}
 use lib.ListN.{length, take, drop}
 use lib.Seq.{take-at}
 use contract.Lifetimes.{Lfts}
@@ -23,7 +24,7 @@ use Rattle.frame.proofs.RawFrame.encode.Reads as encode
 
 -- every frame that `encode` takes and the hold buffer has room for
 pub sent : (H : ℕ) (f : Fields) → length (f .payload) ≤ 65535 → length (wireOf f) ≤ H → Sent H
-sent H f l m = record { fields = f; room = H; wire = wireOf f; written = encode-fits f H l m; fits = m }
+sent H f l m = record { fields = f; room = H; wire = wireOf f; written = encode-fits f H l m; fits = omega arith }
 
 -- an answer that is the length of what fills the front
 filled-front : (T : Told (List ℕ)) (n : ℕ) (old new : List ℕ) → yes n ≡ onYes length T → new ≡ filled T old → T ≡ yes (take n new)

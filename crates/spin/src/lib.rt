@@ -1,7 +1,8 @@
 // EF and E9: the spin measurement and the radar's tracking status, each one record beside its answer.
 // Every field is the table's in specs/; beside a refusal every number of the record is zero.
 ghost use mathlib.Core.Path.{_≡_};
-ghost use Prim.Native.Nat.{_+_, _*_, _<_};
+ghost use Prim.Native.Nat.{_+_, _*_, _≤_};
+ghost use lib.ListN.{length, take};
 ghost use Rattle.error.specs.Result.{toldUnit};
 ghost use Rattle.layout.specs.Layout.{answered, sourceOf, fieldsOf, zeros, row};
 ghost use Rattle.spin.specs.Tables.{elementOf, spinOf, trackingOf};
@@ -154,100 +155,110 @@ impl TrackingStatus {
     }
 }
 
-// The record of a payload, where a byte past the end counts as 0.
+// The record of a payload that is long enough.
 fn read_spin(payload: &[u8]) -> SpinResult
-    ensures { λ r. ⌜ r ≡ spinOf (fieldsOf (now (payload .entry))) ⌝ }
+    requires { ⌜ 138 ≤ length (now payload) ⌝ }
+    ensures { λ r. ⌜ r ≡ spinOf (fieldsOf (take 138 (now (payload .entry)))) ⌝ }
 {
+    let d = &payload[..138];
     SpinResult {
-        version: integer::byte_at(payload, 0),
-        antenna_data: read_antennas(payload),
-        pm_spin_raw: integer::int16_at(payload, 106),
-        pm_spin_final: integer::int16_at(payload, 108),
-        pm_spin_confidence: integer::int16_at(payload, 110),
-        lift_spin: integer::int16_at(payload, 112),
-        spin_validate_expected: integer::int16_at(payload, 114),
-        spin_validate_low: integer::int16_at(payload, 116),
-        spin_validate_high: integer::int16_at(payload, 118),
-        spin_validate_scaling: integer::int16_at(payload, 120),
-        spin_method: integer::byte_at(payload, 122),
-        spin_flags: integer::int24_at(payload, 123),
-        launch_spin: integer::int16_at(payload, 126),
-        am_spin: integer::int16_at(payload, 128),
-        pm_spin: integer::int16_at(payload, 130),
-        spin_axis: layout::int16_scaled_at(payload, 132, 10.0),
-        aod_spin: integer::int16_at(payload, 134),
-        pll_spin: integer::int16_at(payload, 136),
+        version: integer::byte_at(d, 0),
+        antenna_data: read_antennas(d),
+        pm_spin_raw: integer::int16_at(d, 106),
+        pm_spin_final: integer::int16_at(d, 108),
+        pm_spin_confidence: integer::int16_at(d, 110),
+        lift_spin: integer::int16_at(d, 112),
+        spin_validate_expected: integer::int16_at(d, 114),
+        spin_validate_low: integer::int16_at(d, 116),
+        spin_validate_high: integer::int16_at(d, 118),
+        spin_validate_scaling: integer::int16_at(d, 120),
+        spin_method: integer::byte_at(d, 122),
+        spin_flags: integer::int24_at(d, 123),
+        launch_spin: integer::int16_at(d, 126),
+        am_spin: integer::int16_at(d, 128),
+        pm_spin: integer::int16_at(d, 130),
+        spin_axis: layout::int16_scaled_at(d, 132, 10.0),
+        aod_spin: integer::int16_at(d, 134),
+        pll_spin: integer::int16_at(d, 136),
     }
 }
 
 fn read_tracking(payload: &[u8]) -> TrackingStatus
-    ensures { λ r. ⌜ r ≡ trackingOf (fieldsOf (now (payload .entry))) ⌝ }
+    requires { ⌜ 82 ≤ length (now payload) ⌝ }
+    ensures { λ r. ⌜ r ≡ trackingOf (fieldsOf (take 82 (now (payload .entry)))) ⌝ }
 {
+    let d = &payload[..82];
     TrackingStatus {
-        state: integer::byte_at(payload, 1),
-        flags: integer::byte_at(payload, 2),
-        pre_trig_buf_start: integer::uint24_at(payload, 22),
-        club_impact_idx: integer::uint24_at(payload, 25),
-        trigger_idx: integer::uint24_at(payload, 28),
-        radar_cal1: integer::uint24_at(payload, 32),
-        radar_cal2: integer::uint24_at(payload, 35),
-        radar_cal_avr: integer::uint16_at(payload, 38),
-        processing_iteration: integer::byte_at(payload, 47),
-        result_quality: integer::byte_at(payload, 48),
-        detection_subtype: integer::byte_at(payload, 51),
-        prc_tracking_count: integer::byte_at(payload, 54),
-        radar_measurement: integer::uint16_at(payload, 56),
-        trigger_flags: integer::byte_at(payload, 59),
-        event_counter: integer::uint16_at(payload, 62),
-        radar_baseline: integer::int24_at(payload, 67),
+        state: integer::byte_at(d, 1),
+        flags: integer::byte_at(d, 2),
+        pre_trig_buf_start: integer::uint24_at(d, 22),
+        club_impact_idx: integer::uint24_at(d, 25),
+        trigger_idx: integer::uint24_at(d, 28),
+        radar_cal1: integer::uint24_at(d, 32),
+        radar_cal2: integer::uint24_at(d, 35),
+        radar_cal_avr: integer::uint16_at(d, 38),
+        processing_iteration: integer::byte_at(d, 47),
+        result_quality: integer::byte_at(d, 48),
+        detection_subtype: integer::byte_at(d, 51),
+        prc_tracking_count: integer::byte_at(d, 54),
+        radar_measurement: integer::uint16_at(d, 56),
+        trigger_flags: integer::byte_at(d, 59),
+        event_counter: integer::uint16_at(d, 62),
+        radar_baseline: integer::int24_at(d, 67),
         track_measure: [
-            integer::int24_at(payload, 70),
-            integer::int24_at(payload, 73),
-            integer::int24_at(payload, 76),
+            integer::int24_at(d, 70),
+            integer::int24_at(d, 73),
+            integer::int24_at(d, 76),
         ],
-        track_measure4: integer::uint16_at(payload, 80),
+        track_measure4: integer::uint16_at(d, 80),
     }
 }
 
 // The 15 antenna elements in a row, 7 bytes each from place 1 on.
-fn read_antennas(payload: &[u8]) -> [AntennaElement; 15]
-    ensures { λ r. ⌜ r ≡ row 15 (λ n. elementOf (fieldsOf (now (payload .entry))) (1 + n * 7)) ⌝ }
+fn read_antennas(d: &[u8]) -> [AntennaElement; 15]
+    requires { ⌜ 106 ≤ length (now d) ⌝ }
+    ensures { λ r. ⌜ r ≡ row 15 (λ n. elementOf (fieldsOf (now (d .entry))) (1 + n * 7)) ⌝ }
 {
     [
-        read_element(payload, 1),
-        read_element(payload, 8),
-        read_element(payload, 15),
-        read_element(payload, 22),
-        read_element(payload, 29),
-        read_element(payload, 36),
-        read_element(payload, 43),
-        read_element(payload, 50),
-        read_element(payload, 57),
-        read_element(payload, 64),
-        read_element(payload, 71),
-        read_element(payload, 78),
-        read_element(payload, 85),
-        read_element(payload, 92),
-        read_element(payload, 99),
+        read_element(d, 1),
+        read_element(d, 8),
+        read_element(d, 15),
+        read_element(d, 22),
+        read_element(d, 29),
+        read_element(d, 36),
+        read_element(d, 43),
+        read_element(d, 50),
+        read_element(d, 57),
+        read_element(d, 64),
+        read_element(d, 71),
+        read_element(d, 78),
+        read_element(d, 85),
+        read_element(d, 92),
+        read_element(d, 99),
     ]
 }
 
-fn read_element(payload: &[u8], base: usize) -> AntennaElement
-    requires { ⌜ base < 100 ⌝ }
-    ensures { λ r. ⌜ r ≡ elementOf (fieldsOf (now (payload .entry))) base ⌝ }
+fn read_element(d: &[u8], base: usize) -> AntennaElement
+    requires { ⌜ base + 7 ≤ length (now d) ⌝ }
+    ensures { λ r. ⌜ r ≡ elementOf (fieldsOf (now (d .entry))) base ⌝ }
 {
+    let e = &d[base..base + 7];
     AntennaElement {
-        spin_rpm: integer::int16_at(payload, base),
-        peak: layout::int24_scaled_at(payload, base + 2, 1000.0),
-        snr: integer::int16_at(payload, base + 5),
+        spin_rpm: integer::int16_at(e, 0),
+        peak: layout::int24_scaled_at(e, 2, 1000.0),
+        snr: integer::int16_at(e, 5),
     }
 }
 
-// The record beside a refusal: every number is zero.
+// The records beside a refusal: every number is zero.
 fn zero_spin() -> SpinResult
     ensures { λ r. ⌜ r ≡ spinOf zeros ⌝ }
 {
-    let nothing = zero_element();
+    let nothing = AntennaElement {
+        spin_rpm: 0,
+        peak: 0.0,
+        snr: 0,
+    };
     SpinResult {
         version: 0,
         antenna_data: [nothing; 15],
@@ -267,16 +278,6 @@ fn zero_spin() -> SpinResult
         spin_axis: 0.0,
         aod_spin: 0,
         pll_spin: 0,
-    }
-}
-
-fn zero_element() -> AntennaElement
-    ensures { λ r. ⌜ r ≡ elementOf zeros 0 ⌝ }
-{
-    AntennaElement {
-        spin_rpm: 0,
-        peak: 0.0,
-        snr: 0,
     }
 }
 

@@ -1,4 +1,5 @@
--- Laws of `specs/Split.antt` that the proofs cite. Assumes nothing.
+-- Laws of specs/Feed and specs/View that the proofs cite: places that are found, a frame that is kept, the cases of `feedRule`.
+-- Assumes nothing.
 use mathlib.Core.Path.{_≡_, refl, sym, ap, _∙_}
 use mathlib.Core.Bool.{Bool, true, false, cond, not, _&&_, _||_}
 use mathlib.Core.List.{List, []}

@@ -20,6 +20,20 @@ use Rattle.stuffing.proofs.Proper.{units, code-other}
 
 -- ---- joined
 
+pub proper-append : {a b : List ℕ} → Proper a → Proper b → Proper (a ++ b)
+proper-append none q = q
+proper-append (byte h p) q = byte h (proper-append p q)
+proper-append (escape e h p) q = escape e h (proper-append p q)
+
+pub kept-append : (a b : List ℕ) → kept (a ++ b) ≡ kept a + kept b
+kept-append [] b = omega arith
+kept-append (x ∷ a) b = omega (arith, kept-append a b)
+
+pub kept-none : {s : List ℕ} → Proper s → kept s ≡ 0 → s ≡ []
+kept-none none e = refl
+kept-none (byte {b} h p) e = absurd (let q : ⊥ = omega (arith, rw (ne-eqb b 0xFD h) at e) in q)
+kept-none (escape {b} {c} x h p) e = absurd (let q : ⊥ = omega (arith, rw (ne-eqb c 0xFD (code-other h)) at e) in q)
+
 pub unstuff-join : (i : ℕ) {a : List ℕ} (p : Proper a) (b : List ℕ) {us : List (ℕ × ℕ)} → unstuff (i + length a) b ≡ yes us
     → unstuff i (a ++ b) ≡ yes (units i p ++ us)
 unfolding units
@@ -39,7 +53,7 @@ pub record Front (l : List ℕ) : Type 0 where
   pub one : kept l ≡ 1 + kept (drop (widthOf (getD l 0 0)) l)
   pub step : (i : ℕ) → stepAt i (getD l 0 0) (drop 1 l) ≡ yes (valueOf l)
 
-value-plain : (b : ℕ) (l : List ℕ) → (b ≡ 0xFD → ⊥) → valueOf (b ∷ l) ≡ b
+pub value-plain : (b : ℕ) (l : List ℕ) → (b ≡ 0xFD → ⊥) → valueOf (b ∷ l) ≡ b
 value-plain b [] h = refl
 value-plain b (c ∷ l) h = rw (ne-eqb b 0xFD h)
 

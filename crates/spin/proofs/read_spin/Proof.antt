@@ -1,11 +1,22 @@
 -- `read_spin` meets its contract: each call answers a field of the table.
 -- Assumes nothing.
+use mathlib.Core.Path.{sym}
+use native.Mathlib.Omega.{arith}
+use lib.Seq.{length-take-le}
 use lib.Ieee.{ofInt, ofBits}
 use mir.Syntax.{w16, w32}
 use Rattle.layout.proofs.Held.{held}
 use Rattle.spin.specs.Tables.{spinOf}
 use Rattle.spin.proofs.read_spin.Statement.{statement}
 use Rattle.spin.proofs.read_spin.Tie as tie
+
+slice-aggregate-d : tie.Need-slice-aggregate-d
+slice-aggregate-d c = sym (length-take-le 138 (c .before .before .args .payload .now) (c .before .before .pre))
+
+read-antennas-requires : tie.Need-read-antennas-requires
+read-antennas-requires c κs =
+    let s = c .before .before .before in
+    omega (arith, length-take-le 138 (s .args .payload .now) (s .pre))
 
 returns : tie.Need-returns
 unfolding spinOf ofInt ofBits
@@ -54,7 +65,8 @@ pub read-spin-spec : {M : Type 1} → statement M
 read-spin-spec =
     tie.close
     (tie.spec
-    (λ c κs. tt) (λ c κs. tt) (λ c κs. tt) (λ c κs. tt) (λ c κs. tt) (λ c κs. tt) (λ c κs. tt) (λ c κs. tt)
+    slice-aggregate-d
+    (λ c κs. tt) read-antennas-requires (λ c κs. tt) (λ c κs. tt) (λ c κs. tt) (λ c κs. tt) (λ c κs. tt) (λ c κs. tt)
     (λ c κs. tt) (λ c κs. tt) (λ c κs. tt) (λ c κs. tt) (λ c κs. tt) (λ c κs. tt) (λ c κs. tt) (λ c κs. tt)
     (λ c κs. tt) (λ c κs. tt)
     returns)

@@ -1,11 +1,16 @@
 -- `read_tracking` meets its contract: each call answers a field of the table.
 -- Assumes nothing.
+use mathlib.Core.Path.{sym}
+use lib.Seq.{length-take-le}
 use mathlib.Core.List.{[], _∷_}
 use mir.Syntax.{w32}
 use Rattle.layout.proofs.Held.{held}
 use Rattle.spin.specs.Tables.{trackingOf}
 use Rattle.spin.proofs.read_tracking.Statement.{statement}
 use Rattle.spin.proofs.read_tracking.Tie as tie
+
+slice-aggregate-d : tie.Need-slice-aggregate-d
+slice-aggregate-d c = sym (length-take-le 82 (c .before .before .args .payload .now) (c .before .before .pre))
 
 returns : tie.Need-returns
 unfolding trackingOf
@@ -56,6 +61,7 @@ pub read-tracking-spec : {M : Type 1} → statement M
 read-tracking-spec =
     tie.close
     (tie.spec
+    slice-aggregate-d
     (λ c κs. tt) (λ c κs. tt) (λ c κs. tt) (λ c κs. tt) (λ c κs. tt) (λ c κs. tt) (λ c κs. tt) (λ c κs. tt)
     (λ c κs. tt) (λ c κs. tt) (λ c κs. tt) (λ c κs. tt) (λ c κs. tt) (λ c κs. tt) (λ c κs. tt) (λ c κs. tt)
     (λ c κs. tt) (λ c κs. tt) (λ c κs. tt) (λ c κs. tt)

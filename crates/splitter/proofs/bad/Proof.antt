@@ -1,4 +1,5 @@
--- `splitter::bad` meets its contract. Assumes nothing.
+-- `bad` meets its contract: at each `return` the tests that led there say what `isBad` is.
+-- Assumes nothing.
 use borrow.Author.Tests.{lt-ltb, le-ltb}
 use Rattle.splitter.proofs.bad.Statement.{statement}
 use Rattle.splitter.proofs.bad.Tie as tie

@@ -1,4 +1,4 @@
--- `splitter::lay` meets its contract. The loop's invariant: dst is its first self with the first i bytes of src pasted in.
+-- `lay` meets its contract. The loop's invariant: dst is its first self with the first i bytes of src pasted in.
 -- Assumes nothing.
 use mathlib.Core.Path.{_≡_, refl, _∙_}
 use Prim.Native.Nat.{_-_, _≤_}

@@ -1,5 +1,6 @@
--- `splitter::start` meets its contract: at each `return` the tests that led there say which case of `startIn` holds.
+-- `start` meets its contract: at each `return` the tests that led there say which case of `startIn` holds.
 -- Assumes nothing.
+use mathlib.Core.Path.{_≡_}
 use borrow.Author.Needs.{needs}
 use native.Mathlib.Omega.{arith}
 use borrow.Author.Tests.{eq-eqb, ne-eqb}
@@ -10,13 +11,18 @@ returns : tie.Need-returns
 returns c = (simp (c .if1 .taken), omega arith)
 
 returns-2 : tie.Need-returns-2
-returns-2 c = (simp (c .before .before .if1 .left, ne-eqb _ _ (c .if2 .taken)), omega arith)
+returns-2 c =
+    let some : c .before .before .before .before .args .s .count ≡ 0 → ⊥ = λ z. omega arith in
+    (simp (c .before .before .if1 .left, ne-eqb _ _ some), omega arith)
 
 find-requires : tie.Need-find-requires
 find-requires c κs = search needs
 
 returns-3 : tie.Need-returns-3
-returns-3 c = (simp (c .before .before .before .if1 .left, eq-eqb _ _ (c .before .if2 .left)) (c .find .ensures .0), c .find .ensures .1)
+returns-3 c =
+    let e = c .before in
+    let none : e .before .before .before .before .args .s .count ≡ 0 = omega arith in
+    (simp (e .before .before .if1 .left, eq-eqb _ _ none) (c .find .ensures .0), c .find .ensures .1)
 
 pub start-spec : {M : Type 1} → statement M
 start-spec = tie.close (tie.spec returns returns-2 find-requires returns-3)

@@ -1,4 +1,4 @@
--- `splitter::view` meets its contract: at each `return` the tests that led there say which case of `viewRule` holds.
+-- `view` meets its contract: at each `return` the tests that led there say which case of `viewRule` holds.
 -- Assumes nothing.
 use mathlib.Core.Logic.{⊎-elim}
 use Prim.Native.Nat.{_+_, _<_, _≤_}

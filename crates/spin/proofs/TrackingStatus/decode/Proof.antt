@@ -12,4 +12,4 @@ returns-2 : tie.Need-returns-2
 returns-2 c = whole trackingOf 0xE9 82 (c .before .before .before .args .payload .now) (c .before .if1 .left) (c .read-tracking .ensures)
 
 pub decode-spec : {M : Type 1} → statement M
-decode-spec = tie.close (tie.spec (λ c κs. tt) returns (λ c κs. tt) returns-2)
+decode-spec = tie.close (tie.spec (λ c κs. tt) returns (λ c κs. c .if1 .left) returns-2)

@@ -1,0 +1,24 @@
+-- `figures3` meets its contract: each call's answer in its place.
+use borrow.Author.Needs.{needs}
+use mathlib.Core.Path.{_≡_, _∙_, ap}
+use mathlib.Core.List.{[], _∷_}
+use Prim.Native.Nat.{_+_}
+use native.Mathlib.Omega.{arith}
+use Rattle.flight.specs.Decoding.{figureIn}
+use Rattle.flight.proofs.figures.figures3.Statement.{statement}
+use Rattle.flight.proofs.figures.figures3.Tie as tie
+
+returns : tie.Need-returns
+returns c =
+    let a = c .before .before .before .args in
+    let n : a .n ≡ a .n + 0 = omega arith in
+    λ i.
+    (c .before .before .figure-at .ensures ∙ ap (figureIn (a .z .now) (a .by .now) (a .first) (a .s)) n) i ∷ c .before .figure-at2 .ensures i ∷ c .figure-at3 .ensures i ∷ []
+
+pub figures3-spec : {M : Type 1} → statement M
+figures3-spec =
+    tie.close
+    (tie.spec (λ c κs. search needs)
+    (λ c. search needs) (λ c κs. search needs)
+    (λ c. search needs) (λ c κs. search needs)
+    returns)

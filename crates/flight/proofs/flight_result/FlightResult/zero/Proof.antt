@@ -1,0 +1,12 @@
+-- `FlightResult::zero` meets its contract: by computation.
+use mathlib.Core.Path.{refl}
+use lib.Ieee.{ofBits}
+use Rattle.flight.proofs.flight_result.FlightResult.zero.Statement.{statement}
+use Rattle.flight.proofs.flight_result.FlightResult.zero.Tie as tie
+
+returns : tie.Need-returns
+unfolding ofBits
+returns c = refl
+
+pub zero-spec : {M : Type 1} → statement M
+zero-spec = tie.close (tie.spec returns)

@@ -1,0 +1,6 @@
+-- What the contracts of the decoders cite.
+pub mod Decoding
+pub mod FlightResultFields
+pub mod FlightResultV1Fields
+pub mod ClubResultFields
+pub mod Failure

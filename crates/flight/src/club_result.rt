@@ -1,0 +1,152 @@
+// ClubResult (type ED): decoded whole, or refused with every number of the record zero.
+// Each field is the number of its name in specs/ClubResultFields.
+ghost use mathlib.Core.Path.{_≡_};
+ghost use Rattle.flight.specs.Decoding.{decodeRule, numbersIn, zeros};
+ghost use Rattle.flight.specs.ClubResultFields.{clubResult, toldClubResult};
+use crate::figures::figure_at;
+use crate::figures::figures36;
+use error::ResultUnit;
+use error::WireError;
+use integer::byte_at;
+use numbers::DIVISORS;
+use numbers::ED;
+use numbers::Message;
+use numbers::scale;
+use numbers::wholes;
+
+// Club head measurements. Appears 2x per shot (duplicate). Type 0xED.
+pub struct ClubResult {
+    // Number of club PRC tracking points
+    pub num_club_prc_points: u8,
+    // Flags (raw)
+    pub flags: i32,
+    // Pre-impact club speed (m/s)
+    pub pre_club_speed: f64,
+    // Post-impact club speed (m/s)
+    pub post_club_speed: f64,
+    // Strike direction / path angle (deg, positive = left)
+    pub strike_direction: f64,
+    // Attack angle (deg)
+    pub attack_angle: f64,
+    // Face angle (deg, positive = left)
+    pub face_angle: f64,
+    // Dynamic loft (deg)
+    pub dynamic_loft: f64,
+    // Smash factor (ratio)
+    pub smash_factor: f64,
+    // Dispersion correction
+    pub dispersion_correction: f64,
+    // Swing plane horizontal direction (deg, positive = left)
+    pub swing_plane_horizontal: f64,
+    // Swing plane vertical (deg)
+    pub swing_plane_vertical: f64,
+    // Club azimuth (deg)
+    pub club_azimuth: f64,
+    // Club elevation (deg)
+    pub club_elevation: f64,
+    // Club offset (m)
+    pub club_offset: f64,
+    // Club height (m)
+    pub club_height: f64,
+    // Polynomial scale factor
+    pub poly_scale: i32,
+    // 12 polynomials of 3 coefficients each, in a row
+    // Order: Pre_v, Pst_v, Pre_x, Pst_x, Pre_y, Pst_y, Pre_z, Pst_z,
+    //        Pre_YX, Pst_YX, Pre_ZX, Pst_ZX
+    pub poly_coeffs: [f64; 36],
+    // Pre-impact time (ms, /100)
+    pub pre_impact_time: f64,
+    // Post-impact time (ms, /100)
+    pub post_impact_time: f64,
+    // Club-to-ball time (ms, /100)
+    pub club_to_ball_time: f64,
+}
+
+// The reply, and the record beside it.
+pub struct ResultClubResult {
+    pub result: ResultUnit,
+    pub record: ClubResult,
+}
+
+impl ClubResult {
+    pub fn decode(payload: &[u8]) -> ResultClubResult
+        ensures { λ r. ⌜ toldClubResult r ≡ decodeRule Message.ClubResult clubResult (now (payload .entry)) ⌝ }
+    {
+        let got = payload.len();
+        if got < 167 {
+            return ResultClubResult {
+                result: ResultUnit::Err(WireError::PayloadTooShort {
+                    kind: 0xED,
+                    need: 167,
+                    got,
+                }),
+                record: ClubResult::zero(),
+            };
+        }
+        let by = DIVISORS;
+        let z = wholes(Message::ClubResult, payload);
+        let s = scale(Message::ClubResult, z[15]);
+        ResultClubResult {
+            result: ResultUnit::Ok,
+            record: ClubResult::of(byte_at(payload, 1), &z, &by, s),
+        }
+    }
+
+    // The record of these whole numbers, by these divisors and this scale.
+    fn of(num_club_prc_points: u8, z: &[i32; 55], by: &[u32; 138], s: f64) -> ClubResult
+        ensures { λ r. ⌜ r ≡ clubResult (numbersIn Message.ClubResult «num_club_prc_points» (now (z .entry)) (now (by .entry)) s) ⌝ }
+    {
+        ClubResult {
+            num_club_prc_points,
+            flags: z[0],
+            pre_club_speed: figure_at(z, by, ED, 1, s),
+            post_club_speed: figure_at(z, by, ED, 2, s),
+            strike_direction: figure_at(z, by, ED, 3, s),
+            attack_angle: figure_at(z, by, ED, 4, s),
+            face_angle: figure_at(z, by, ED, 5, s),
+            dynamic_loft: figure_at(z, by, ED, 6, s),
+            smash_factor: figure_at(z, by, ED, 7, s),
+            dispersion_correction: figure_at(z, by, ED, 8, s),
+            swing_plane_horizontal: figure_at(z, by, ED, 9, s),
+            swing_plane_vertical: figure_at(z, by, ED, 10, s),
+            club_azimuth: figure_at(z, by, ED, 11, s),
+            club_elevation: figure_at(z, by, ED, 12, s),
+            club_offset: figure_at(z, by, ED, 13, s),
+            club_height: figure_at(z, by, ED, 14, s),
+            poly_scale: z[15],
+            poly_coeffs: figures36(z, 16, by[ED + 16], s),
+            pre_impact_time: figure_at(z, by, ED, 52, s),
+            post_impact_time: figure_at(z, by, ED, 53, s),
+            club_to_ball_time: figure_at(z, by, ED, 54, s),
+        }
+    }
+
+    // Every number zero.
+    fn zero() -> ClubResult
+        ensures { λ r. ⌜ r ≡ clubResult zeros ⌝ }
+    {
+        ClubResult {
+            num_club_prc_points: 0,
+            flags: 0,
+            pre_club_speed: 0.0,
+            post_club_speed: 0.0,
+            strike_direction: 0.0,
+            attack_angle: 0.0,
+            face_angle: 0.0,
+            dynamic_loft: 0.0,
+            smash_factor: 0.0,
+            dispersion_correction: 0.0,
+            swing_plane_horizontal: 0.0,
+            swing_plane_vertical: 0.0,
+            club_azimuth: 0.0,
+            club_elevation: 0.0,
+            club_offset: 0.0,
+            club_height: 0.0,
+            poly_scale: 0,
+            poly_coeffs: [0.0; 36],
+            pre_impact_time: 0.0,
+            post_impact_time: 0.0,
+            club_to_ball_time: 0.0,
+        }
+    }
+}

@@ -1,0 +1,203 @@
+// FlightResult (type D4): decoded whole, or refused with every number of the record zero.
+// Each field is the number of its name in specs/FlightResultFields.
+ghost use mathlib.Core.Path.{_≡_};
+ghost use Rattle.flight.specs.Decoding.{decodeRule, numbersIn, zeros};
+ghost use Rattle.flight.specs.FlightResultFields.{flightResult, toldFlightResult};
+ghost use Rattle.flight.specs.Failure.{modelFailure};
+use crate::failure::no_speed;
+use crate::figures::figure_at;
+use crate::figures::figures3;
+use crate::figures::figures5;
+use error::ResultUnit;
+use error::WireError;
+use numbers::D4;
+use numbers::DIVISORS;
+use numbers::Message;
+use numbers::scale;
+use numbers::wholes;
+
+// Primary ball flight result. 1 per shot. Type 0xD4.
+//
+// Contains 36 linear scalar fields plus a polynomial scale factor and 15
+// polynomial trajectory coefficients (5th-order, x/y/z).
+pub struct FlightResult {
+    // Shot counter
+    pub total: i32,
+    // Tracked time (s)
+    pub track_time: f64,
+    // Start position [forward, vertical, lateral] (m, lateral positive =
+    // left)
+    pub start_position: [f64; 3],
+    // Launch speed (m/s)
+    pub launch_speed: f64,
+    // Launch azimuth (deg, positive = left, negative = right)
+    pub launch_azimuth: f64,
+    // Launch elevation / VLA (deg)
+    pub launch_elevation: f64,
+    // Carry distance (m)
+    pub carry_distance: f64,
+    // Flight time (s)
+    pub flight_time: f64,
+    // Maximum height (m)
+    pub max_height: f64,
+    // Landing position [forward, vertical, lateral] (m, lateral positive =
+    // left)
+    pub landing_position: [f64; 3],
+    // Backspin (RPM)
+    pub backspin_rpm: i32,
+    // Sidespin (RPM, positive = curves left, negative = curves right)
+    pub sidespin_rpm: i32,
+    // Riflespin (RPM)
+    pub riflespin_rpm: i32,
+    // Landing spin [0, 1, 2] (RPM)
+    pub landing_spin_rpm: [i32; 3],
+    // Landing velocity [forward, vertical, lateral] (m/s, lateral positive
+    // = left)
+    pub landing_velocity: [f64; 3],
+    // Total distance (m) — not populated by DSP; contains diagnostic values.
+    pub total_distance: f64,
+    // Roll distance (m) — not populated by DSP; always zero on wire.
+    pub roll_distance: f64,
+    // Final position [forward, vertical, lateral] (m) — not populated by DSP; always (0,0,0).
+    pub final_position: [f64; 3],
+    // Club head speed (m/s)
+    pub clubhead_speed: f64,
+    // Club strike direction / path (deg, positive = left)
+    pub club_strike_direction: f64,
+    // Club attack angle (deg)
+    pub club_attack_angle: f64,
+    // Club head speed post-impact (m/s)
+    pub clubhead_speed_post: f64,
+    // Club swing plane tilt (deg)
+    pub club_swing_plane_tilt: f64,
+    // Club swing plane rotation (deg, positive = left)
+    pub club_swing_plane_rotation: f64,
+    // Club effective loft (deg)
+    pub club_effective_loft: f64,
+    // Club face angle (deg, positive = left)
+    pub club_face_angle: f64,
+    // Polynomial scale factor (raw integer, divide poly coefficients by this)
+    pub poly_scale: i32,
+    // Trajectory polynomial X coefficients [0..4]
+    pub poly_x: [f64; 5],
+    // Trajectory polynomial Y coefficients [0..4]
+    pub poly_y: [f64; 5],
+    // Trajectory polynomial Z coefficients [0..4]
+    pub poly_z: [f64; 5],
+}
+
+// The reply, and the record beside it.
+pub struct ResultFlightResult {
+    pub result: ResultUnit,
+    pub record: FlightResult,
+}
+
+impl FlightResult {
+    // Whether this is the device's "distance model failed" result: launch
+    // speed 0 (or not a number). In full-flight outdoor mode a shot into a
+    // net or screen produces it; the 0xE8 sent before it is still valid.
+    pub fn is_model_failure(self) -> bool
+        ensures { λ r. ⌜ r ≡ modelFailure self ⌝ }
+    {
+        no_speed(self.launch_speed)
+    }
+
+    pub fn decode(payload: &[u8]) -> ResultFlightResult
+        ensures { λ r. ⌜ toldFlightResult r ≡ decodeRule Message.FlightResult flightResult (now (payload .entry)) ⌝ }
+    {
+        let got = payload.len();
+        if got < 157 {
+            return ResultFlightResult {
+                result: ResultUnit::Err(WireError::PayloadTooShort {
+                    kind: 0xD4,
+                    need: 157,
+                    got,
+                }),
+                record: FlightResult::zero(),
+            };
+        }
+        let by = DIVISORS;
+        let z = wholes(Message::FlightResult, payload);
+        let s = scale(Message::FlightResult, z[36]);
+        ResultFlightResult {
+            result: ResultUnit::Ok,
+            record: FlightResult::of(&z, &by, s),
+        }
+    }
+
+    // The record of these whole numbers, by these divisors and this scale.
+    fn of(z: &[i32; 55], by: &[u32; 138], s: f64) -> FlightResult
+        ensures { λ r. ⌜ r ≡ flightResult (numbersIn Message.FlightResult 0 (now (z .entry)) (now (by .entry)) s) ⌝ }
+    {
+        FlightResult {
+            total: z[0],
+            track_time: figure_at(z, by, D4, 1, s),
+            start_position: figures3(z, by, D4, 2, s),
+            launch_speed: figure_at(z, by, D4, 5, s),
+            launch_azimuth: figure_at(z, by, D4, 6, s),
+            launch_elevation: figure_at(z, by, D4, 7, s),
+            carry_distance: figure_at(z, by, D4, 8, s),
+            flight_time: figure_at(z, by, D4, 9, s),
+            max_height: figure_at(z, by, D4, 10, s),
+            landing_position: figures3(z, by, D4, 11, s),
+            backspin_rpm: z[14],
+            sidespin_rpm: z[15],
+            riflespin_rpm: z[16],
+            landing_spin_rpm: [z[17], z[18], z[19]],
+            landing_velocity: figures3(z, by, D4, 20, s),
+            total_distance: figure_at(z, by, D4, 23, s),
+            roll_distance: figure_at(z, by, D4, 24, s),
+            final_position: figures3(z, by, D4, 25, s),
+            clubhead_speed: figure_at(z, by, D4, 28, s),
+            club_strike_direction: figure_at(z, by, D4, 29, s),
+            club_attack_angle: figure_at(z, by, D4, 30, s),
+            clubhead_speed_post: figure_at(z, by, D4, 31, s),
+            club_swing_plane_tilt: figure_at(z, by, D4, 32, s),
+            club_swing_plane_rotation: figure_at(z, by, D4, 33, s),
+            club_effective_loft: figure_at(z, by, D4, 34, s),
+            club_face_angle: figure_at(z, by, D4, 35, s),
+            poly_scale: z[36],
+            poly_x: figures5(z, by, D4, 37, s),
+            poly_y: figures5(z, by, D4, 42, s),
+            poly_z: figures5(z, by, D4, 47, s),
+        }
+    }
+
+    // Every number zero.
+    fn zero() -> FlightResult
+        ensures { λ r. ⌜ r ≡ flightResult zeros ⌝ }
+    {
+        FlightResult {
+            total: 0,
+            track_time: 0.0,
+            start_position: [0.0; 3],
+            launch_speed: 0.0,
+            launch_azimuth: 0.0,
+            launch_elevation: 0.0,
+            carry_distance: 0.0,
+            flight_time: 0.0,
+            max_height: 0.0,
+            landing_position: [0.0; 3],
+            backspin_rpm: 0,
+            sidespin_rpm: 0,
+            riflespin_rpm: 0,
+            landing_spin_rpm: [0; 3],
+            landing_velocity: [0.0; 3],
+            total_distance: 0.0,
+            roll_distance: 0.0,
+            final_position: [0.0; 3],
+            clubhead_speed: 0.0,
+            club_strike_direction: 0.0,
+            club_attack_angle: 0.0,
+            clubhead_speed_post: 0.0,
+            club_swing_plane_tilt: 0.0,
+            club_swing_plane_rotation: 0.0,
+            club_effective_loft: 0.0,
+            club_face_angle: 0.0,
+            poly_scale: 0,
+            poly_x: [0.0; 5],
+            poly_y: [0.0; 5],
+            poly_z: [0.0; 5],
+        }
+    }
+}

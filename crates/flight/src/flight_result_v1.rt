@@ -1,0 +1,152 @@
+// FlightResultV1 (type E8): decoded whole, or refused with every number of the record zero.
+// Each field is the number of its name in specs/FlightResultV1Fields.
+ghost use mathlib.Core.Path.{_≡_};
+ghost use Rattle.flight.specs.Decoding.{decodeRule, numbersIn, zeros};
+ghost use Rattle.flight.specs.FlightResultV1Fields.{flightResultV1, toldFlightResultV1};
+ghost use Rattle.flight.specs.Failure.{noRead};
+use crate::failure::no_speed;
+use crate::figures::figure_at;
+use crate::figures::figures5;
+use error::ResultUnit;
+use error::WireError;
+use numbers::DIVISORS;
+use numbers::E8;
+use numbers::Message;
+use numbers::scale;
+use numbers::wholes;
+
+// Early/partial flight result. 1 per shot, sent before D4. Type 0xE8.
+pub struct FlightResultV1 {
+    // Shot counter
+    pub total: i32,
+    // Club velocity (m/s)
+    pub club_velocity: f64,
+    // Ball velocity (m/s)
+    pub ball_velocity: f64,
+    // Flight time (s)
+    pub flight_time: f64,
+    // Distance (m)
+    pub distance: f64,
+    // Height (m)
+    pub height: f64,
+    // Lateral landing distance (m, positive = left)
+    pub lateral: f64,
+    // Elevation / VLA (deg)
+    pub elevation: f64,
+    // Azimuth / HLA (deg, positive = left)
+    pub azimuth: f64,
+    // Tracked time (s)
+    pub tracked_time: f64,
+    // Drag coefficient (/1000000)
+    pub drag: f64,
+    // Backspin (RPM)
+    pub backspin_rpm: i32,
+    // Sidespin (RPM)
+    pub sidespin_rpm: i32,
+    // Acceleration
+    pub acceleration: f64,
+    // Club strike direction (deg)
+    pub club_strike_direction: f64,
+    // Polynomial scale factor
+    pub poly_scale: i32,
+    // Trajectory polynomial X coefficients [0..4]
+    pub poly_x: [f64; 5],
+    // Trajectory polynomial Y coefficients [0..4]
+    pub poly_y: [f64; 5],
+    // Trajectory polynomial Z coefficients [0..4]
+    pub poly_z: [f64; 5],
+}
+
+// The reply, and the record beside it.
+pub struct ResultFlightResultV1 {
+    pub result: ResultUnit,
+    pub record: FlightResultV1,
+}
+
+impl FlightResultV1 {
+    // Whether this is a "no read": ball velocity 0 (or not a number). The
+    // device sends it when it triggered but tracked no ball; its other
+    // fields are zero too.
+    pub fn is_no_read(self) -> bool
+        ensures { λ r. ⌜ r ≡ noRead self ⌝ }
+    {
+        no_speed(self.ball_velocity)
+    }
+
+    pub fn decode(payload: &[u8]) -> ResultFlightResultV1
+        ensures { λ r. ⌜ toldFlightResultV1 r ≡ decodeRule Message.FlightResultV1 flightResultV1 (now (payload .entry)) ⌝ }
+    {
+        let got = payload.len();
+        if got < 94 {
+            return ResultFlightResultV1 {
+                result: ResultUnit::Err(WireError::PayloadTooShort {
+                    kind: 0xE8,
+                    need: 94,
+                    got,
+                }),
+                record: FlightResultV1::zero(),
+            };
+        }
+        let by = DIVISORS;
+        let z = wholes(Message::FlightResultV1, payload);
+        let s = scale(Message::FlightResultV1, z[15]);
+        ResultFlightResultV1 {
+            result: ResultUnit::Ok,
+            record: FlightResultV1::of(&z, &by, s),
+        }
+    }
+
+    // The record of these whole numbers, by these divisors and this scale.
+    fn of(z: &[i32; 55], by: &[u32; 138], s: f64) -> FlightResultV1
+        ensures { λ r. ⌜ r ≡ flightResultV1 (numbersIn Message.FlightResultV1 0 (now (z .entry)) (now (by .entry)) s) ⌝ }
+    {
+        FlightResultV1 {
+            total: z[0],
+            club_velocity: figure_at(z, by, E8, 1, s),
+            ball_velocity: figure_at(z, by, E8, 2, s),
+            flight_time: figure_at(z, by, E8, 3, s),
+            distance: figure_at(z, by, E8, 4, s),
+            height: figure_at(z, by, E8, 5, s),
+            lateral: figure_at(z, by, E8, 6, s),
+            elevation: figure_at(z, by, E8, 7, s),
+            azimuth: figure_at(z, by, E8, 8, s),
+            tracked_time: figure_at(z, by, E8, 9, s),
+            drag: figure_at(z, by, E8, 10, s),
+            backspin_rpm: z[11],
+            sidespin_rpm: z[12],
+            acceleration: figure_at(z, by, E8, 13, s),
+            club_strike_direction: figure_at(z, by, E8, 14, s),
+            poly_scale: z[15],
+            poly_x: figures5(z, by, E8, 16, s),
+            poly_y: figures5(z, by, E8, 21, s),
+            poly_z: figures5(z, by, E8, 26, s),
+        }
+    }
+
+    // Every number zero.
+    fn zero() -> FlightResultV1
+        ensures { λ r. ⌜ r ≡ flightResultV1 zeros ⌝ }
+    {
+        FlightResultV1 {
+            total: 0,
+            club_velocity: 0.0,
+            ball_velocity: 0.0,
+            flight_time: 0.0,
+            distance: 0.0,
+            height: 0.0,
+            lateral: 0.0,
+            elevation: 0.0,
+            azimuth: 0.0,
+            tracked_time: 0.0,
+            drag: 0.0,
+            backspin_rpm: 0,
+            sidespin_rpm: 0,
+            acceleration: 0.0,
+            club_strike_direction: 0.0,
+            poly_scale: 0,
+            poly_x: [0.0; 5],
+            poly_y: [0.0; 5],
+            poly_z: [0.0; 5],
+        }
+    }
+}

@@ -1,0 +1,40 @@
+-- The four answers of a field asked for by number, from what the tests and the list's entry say.
+-- Assumes nothing.
+use mathlib.Core.Path.{_≡_, sym, _∙_, ap}
+use mathlib.Core.List.{List, [], _∷_}
+use Prim.Native.Nat.{ℕ, _<_, _≤_}
+use lib.ListN.{length}
+use lib.IntN.{ℤ}
+use borrow.Author.Tests.{lt-ltb, le-ltb}
+use Rattle.error.specs.Refusal.{Told, yes, no}
+use Rattle.integer.specs.Fields.{scaledBy}
+use Rattle.numbers.specs.declared.Message.{Message}
+use Rattle.numbers.specs.declared.Shape.{Shape}
+use Rattle.numbers.specs.Numbers.{shapeOf, ruleOf, codeOf, entryOf, wholeOf, scaleOf, figureOf}
+use Rattle.numbers.specs.Asked.{whole, figure, numberOf, fieldRule}
+use Rattle.numbers.proofs.Laws.{counted, divided}
+
+module _ (m : Message) (p : List ℕ) (n : ℕ) (s : Shape) (e : s ≡ shapeOf m) where
+  pub told-short : length p < s .least → no 7 (s .kind ∷ s .least ∷ length p ∷ []) ≡ fieldRule m p n
+  unfolding fieldRule
+  told-short h = rw e (simp (lt-ltb (length p) (shapeOf m .least) (rw e at h)))
+
+  module _ (l : s .least ≤ length p) where
+    pub told-none : s .count ≤ n → no 11 (n ∷ []) ≡ fieldRule m p n
+    unfolding fieldRule
+    told-none h = simp (le-ltb (length p) (shapeOf m .least) (rw e at l), le-ltb n (shapeOf m .count) (rw e at h))
+
+    module _ (h : n < s .count) where
+      told-some : yes (numberOf m p n) ≡ fieldRule m p n
+      unfolding fieldRule
+      told-some = simp (le-ltb (length p) (shapeOf m .least) (rw e at l), lt-ltb n (shapeOf m .count) (rw e at h))
+
+      module _ (d : ℕ) (q : d ≡ codeOf (ruleOf m n)) where
+        pub told-count : d ≡ 0 → yes (whole (wholeOf m p n)) ≡ fieldRule m p n
+        unfolding numberOf
+        told-count t = ap yes (sym (counted (ruleOf m n) (wholeOf m p n) (figureOf m p n) (sym q ∙ t))) ∙ told-some
+
+        pub told-figure : (d ≡ 0 → ⊥) → yes (figure (scaledBy (entryOf d (scaleOf m p)) (wholeOf m p n))) ≡ fieldRule m p n
+        unfolding numberOf figureOf
+        told-figure t =
+            rw q (ap yes (sym (divided (ruleOf m n) (wholeOf m p n) (scaleOf m p) (λ w. t (q ∙ w)))) ∙ told-some)

@@ -1,0 +1,3 @@
+-- What the contracts of the messages by number cite.
+pub mod Numbers
+pub mod Asked
