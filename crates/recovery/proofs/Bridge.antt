@@ -21,6 +21,8 @@ use Rattle.frame.proofs.Round.{round-trip}
 use Rattle.recovery.specs.Recovery.{Sent}
 use Rattle.frame.proofs.RawFrame.encode.Kinds as encode-kinds
 use Rattle.frame.proofs.RawFrame.encode.Reads as encode
+use Rattle.frame.proofs.RawFrame.parse.Kinds as parse-kinds
+use Rattle.frame.proofs.RawFrame.parse.Reads as parse
 
 -- every frame that `encode` takes and the hold buffer has room for
 pub sent : (H : ℕ) (f : Fields) → length (f .payload) ≤ 65535 → length (wireOf f) ≤ H → Sent H
@@ -42,10 +44,11 @@ encode-sends κs a r x p n e =
     let f = fields (a .0) (a .1 .0) (a .1 .1 .0) (a .1 .1 .1 .0 .now) in
     filled-front (encodeRule f (length (a .1 .1 .1 .1 .0 .now))) n (a .1 .1 .1 .1 .0 .now) (x .1 .1 .1 .1 .0 .now) (sym (ap toldUsize e) ∙ p .0) (p .1)
 
--- A reply r of `parse` on the wire g, and the payload buffer after it, that the contract allows: the fields that g was written from.
-pub parse-gives : {H : ℕ} (g : Sent H) (r : ResultRawFrame) (old new : List ℕ) → length (g .fields .payload) ≤ length old
-    → toldRawFrame r ≡ onYes headerOf (parseRule (g .wire) (length old)) → new ≡ filled (onYes (λ (f : Fields). f .payload) (parseRule (g .wire) (length old))) old
-    → (toldRawFrame r ≡ yes (headerOf (g .fields))) × (new ≡ g .fields .payload ++ drop (length (g .fields .payload)) old)
-parse-gives g r old new l p q =
-    let e : parseRule (g .wire) (length old) ≡ yes (g .fields) = round-trip (g .fields) (g .room) (length old) (g .written) l in
-    (p ∙ ap (onYes headerOf) e, q ∙ ap (λ (t : Told Fields). filled (onYes (λ (f : Fields). f .payload) t) old) e)
+-- A call of `parse` with the wire g of a sound frame and a payload buffer that has room: the fields that g was written from.
+pub parse-gives : {H : ℕ} (g : Sent H) (κs : Lfts 2) (a : Dens κs parse-kinds.ps) (r : ResultRawFrame) (x : AtExit (endedOf 2 parse-kinds.ps parse-kinds.r) κs) → parse.Post κs a r x
+    → a .0 .now ≡ g .wire → length (g .fields .payload) ≤ length (a .1 .0 .now)
+    → (toldRawFrame r ≡ yes (headerOf (g .fields))) × (x .1 .0 .now ≡ g .fields .payload ++ drop (length (g .fields .payload)) (a .1 .0 .now))
+parse-gives g κs a r x p w l =
+    let old = a .1 .0 .now in
+    let e : parseRule (a .0 .now) (length old) ≡ yes (g .fields) = ap (λ (v : List ℕ). parseRule v (length old)) w ∙ round-trip (g .fields) (g .room) (length old) (g .written) l in
+    (p .0 ∙ ap (onYes headerOf) e, p .1 ∙ ap (λ (t : Told Fields). filled (onYes (λ (f : Fields). f .payload) t) old) e)
