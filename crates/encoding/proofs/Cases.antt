@@ -1,11 +1,11 @@
 -- Which case of the rule holds after which tests.
 -- Assumes nothing.
 use mathlib.Core.Path.{_≡_}
-use mathlib.Core.List.{List, [], _∷_}
+use mathlib.Core.List.{[], _∷_}
 use Prim.Native.Nat.{ℕ, _≤_, _<_}
 use lib.ListN.{length}
 use borrow.Author.Tests.{lt-ltb, le-ltb}
-use Rattle.error.specs.Refusal.{Told, yes, no}
+use Rattle.error.specs.Refusal.{yes, no}
 use Rattle.encoding.specs.Wire.{Fields, wireOf}
 use Rattle.encoding.specs.Encode.{encodeRule}
 

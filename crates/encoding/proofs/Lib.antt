@@ -2,3 +2,4 @@
 pub mod Cases
 pub mod Stores
 pub mod Writing
+pub mod One

@@ -1,15 +1,15 @@
 -- Runs of stores: one after another, byte by byte, and those of a stuffed byte.
 -- Assumes nothing.
-use mathlib.Core.Path.{_≡_, refl, sym, ap, _∙_}
+use mathlib.Core.Path.{_≡_, sym, _∙_}
 use mathlib.Core.Bool.{cond}
 use mathlib.Core.List.{List, [], _∷_, _++_}
-use Prim.Native.Nat.{ℕ, suc, _+_, _≤_, _<_}
+use Prim.Native.Nat.{ℕ, suc, _+_, _≤_}
 use native.Mathlib.Nat.{add-zero, zero-add, add-suc, suc-add}
 use native.Mathlib.Numerals.{add-one}
 use native.Mathlib.Omega.{arith}
 use lib.Dec.{eqb}
-use lib.ListN.{length, drop, getD, set}
-use lib.Seq.{sets, sets-eq, set-set, drop-cons}
+use lib.ListN.{length, drop, set}
+use lib.Seq.{sets, sets-eq, set-set}
 use borrow.Author.Tests.{eq-eqb, ne-eqb}
 use Rattle.error.proofs.Cases.{by-eq}
 use Rattle.stuffing.specs.Stuff.{escapeOf, stuffByte}

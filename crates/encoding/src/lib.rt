@@ -1,13 +1,12 @@
 // Encoding of frame.rs: the wire of a frame, written at the front of a lent buffer.
 // `encode` answers and writes what specs/Encode says; the checksum runs over the stuffed bytes, sixteen of which are written at once.
 ghost use mathlib.Core.Path.{_≡_};
-ghost use mathlib.Core.List.{List};
-ghost use Prim.Native.Nat.{ℕ, _+_, _≤_};
+ghost use Prim.Native.Nat.{_+_, _≤_};
 ghost use lib.ListN.{length};
 ghost use lib.Seq.{sets};
 ghost use Rattle.error.specs.Refusal.{onYes};
 ghost use Rattle.error.specs.Result.{toldUsize};
-ghost use Rattle.stuffing.specs.Stuff.{stuffByte, stuff};
+ghost use Rattle.stuffing.specs.Stuff.{escapeOf, stuffByte, stuff};
 ghost use Rattle.encoding.specs.Wire.{fields, csOf, wireOf};
 ghost use Rattle.encoding.specs.Encode.{filled, encodeRule};
 use addr::BusAddr;
@@ -25,17 +24,37 @@ const END: u8 = 0xF1;
 
 const ESC: u8 = 0xFD;
 
-// 0 where no byte of the block has a code.
-fn codes(a: [u8; 16]) -> u8
-    ensures { λ r. ⌜ (r ≡ 0 → stuff a ≡ a) ⌝ }
+// ---- which bytes have a code, without a branch on them
+
+fn lesser(a: u8, b: u8) -> u8
+    ensures { λ r. ⌜ (r ≤ a) × (r ≤ b) ⌝ }
 {
-    let mut all: u8 = 0;
+    if a < b { a } else { b }
+}
+
+// 0 for a byte that has a code, and for no other.
+fn rank(b: u8) -> u8
+    ensures { λ r. ⌜ (1 ≤ r → escapeOf b ≡ 0) ⌝ }
+{
+    let marker = std::num::wrapping_sub_u8(b, START) / 2;
+    let rest = lesser(
+        std::num::wrapping_sub_u8(b, 0xFA),
+        std::num::wrapping_sub_u8(b, ESC),
+    );
+    lesser(marker, rest)
+}
+
+// 0 where a byte of the block has a code.
+fn least_rank(a: [u8; 16]) -> u8
+    ensures { λ r. ⌜ (1 ≤ r → stuff a ≡ a) ⌝ }
+{
+    let mut least: u8 = 255;
     let mut k = 0;
     while k < 16 {
-        all = all | escape_code(a[k]);
+        least = lesser(least, rank(a[k]));
         k += 1;
     }
-    all
+    least
 }
 
 // ---- writing: each stuffs at a place of the buffer and answers the place after it
@@ -70,7 +89,7 @@ fn put_sixteen(s: &[u8], buf: &mut [u8], at: usize) -> usize
     ensures { λ r. ⌜ (r ≡ at + length (stuff (now (s .entry)))) × (now (buf .exit) ≡ sets (now (buf .entry)) at (stuff (now (s .entry)))) ⌝ }
 {
     let a = block(s);
-    if codes(a) == 0 {
+    if least_rank(a) > 0 {
         put_block(a, buf, at);
         return at + 16;
     }

@@ -1,18 +1,16 @@
 -- Which case of a rule holds after which tests.
 -- Assumes nothing.
-use mathlib.Core.Path.{_≡_, refl, sym, ap, _∙_}
-use mathlib.Core.Bool.{Bool, true, false, cond, not}
-use mathlib.Core.List.{List, [], _∷_, _++_}
+use mathlib.Core.Path.{_≡_, refl}
+use mathlib.Core.List.{List, [], _∷_}
 use Prim.Native.Nat.{ℕ, _-_, _≤_, _<_}
-use lib.Dec.{eqb, ltb}
 use lib.ListN.{length, getD}
 use borrow.Author.Tests.{eq-eqb, ne-eqb, lt-ltb, le-ltb}
-use Rattle.error.specs.Refusal.{Told, yes, no}
+use Rattle.error.specs.Refusal.{yes, no}
 use Rattle.addr.specs.declared.BusAddr.{BusAddr}
 use Rattle.addr.specs.Address.{addressRule}
 use Rattle.stuffing.specs.Unstuff.{unstuff, byteAt}
 use Rattle.frame.specs.Wire.{Fields, fields}
-use Rattle.frame.specs.Rule.{then, interior, receivedOf, computedOf, payloadOf, addressesRule, sumRule, unitsRule, checkRule, roomRule, parseRule}
+use Rattle.frame.specs.Rule.{then, interior, receivedOf, computedOf, payloadOf, addressesRule, sumRule, unitsRule, checkRule, parseRule}
 
 module _ (us : List (ℕ × ℕ)) where
   pub bad-dest : (k : ℕ) (vs : List ℕ) → addressRule (byteAt us 0) ≡ no k vs → addressesRule us ≡ no k vs

@@ -3,14 +3,13 @@
 use mathlib.Core.Path.{_≡_, refl, sym, ap, _∙_}
 use mathlib.Core.Bool.{Bool, true, false, cond, not}
 use mathlib.Core.List.{List, [], _∷_}
-use Prim.Native.Nat.{ℕ, _+_, _-_, _≤_, _<_}
+use Prim.Native.Nat.{ℕ, _+_, _-_, _≤_}
 use native.Mathlib.Omega.{arith}
 use lib.Dec.{eqb, ltb}
 use lib.ListN.{length, drop, getD, length-map, length-drop}
 use lib.Seq.{length-take-le}
 use borrow.Author.Tests.{ltb-false, eqb-true}
 use Rattle.error.specs.Refusal.{Told, yes, no, onYes}
-use Rattle.addr.specs.declared.BusAddr.{BusAddr}
 use Rattle.addr.specs.Address.{addressRule}
 use Rattle.stuffing.specs.Unstuff.{unstuff, bytesOf, byteAt}
 use Rattle.stuffing.specs.Proper.{Proper, kept}
@@ -18,7 +17,7 @@ use Rattle.stuffing.proofs.Proper.{units, unstuff-proper, proper-of, length-uni
 use Rattle.frame.specs.Wire.{Fields, fields}
 use Rattle.frame.specs.declared.RawFrame.{RawFrame}
 use Rattle.frame.specs.Rule.{then, interior, receivedOf, computedOf, payloadOf, addressesRule, sumRule, unitsRule, checkRule, roomRule, parseRule, headerOf}
-use Rattle.frame.proofs.Cases.{framed, many, matching, both-known, parse-fits}
+use Rattle.frame.proofs.Cases.{framed, many, matching, both-known}
 
 pub record Checked (w : List ℕ) (f : Fields) : Type 0 where
   pub long : 7 ≤ length w

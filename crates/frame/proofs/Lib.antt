@@ -5,4 +5,5 @@ pub mod Reading
 pub mod Checked
 pub mod Wires
 pub mod Round
+pub mod One
 pub mod Examples

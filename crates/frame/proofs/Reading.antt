@@ -1,26 +1,23 @@
 -- An interior taken apart: the header's bytes from the front, the checksum's from the back, the payload between.
 -- Assumes nothing.
 use mathlib.Core.Path.{_≡_, refl, sym, ap, _∙_}
-use mathlib.Core.Bool.{cond}
-use mathlib.Core.List.{List, [], _∷_, _++_, map}
+use mathlib.Core.List.{List, [], _∷_, _++_}
 use Prim.Native.Nat.{ℕ, zero, suc, _+_, _-_, _*_, _≤_, _<_}
 use native.Mathlib.Nat.{zero-add}
 use native.Mathlib.Numerals.{add-one}
 use native.Mathlib.Omega.{arith}
-use lib.Dec.{eqb}
-use lib.ListN.{length, take, drop, getD, length-append, length-take, length-drop, length-map, take-append-drop, List·getD-append}
-use lib.Seq.{drop-cons, drop-append-le, take-take, length-take-le, getD-append-seam, getD-append-add, take-at}
+use lib.ListN.{length, take, drop, getD, length-append, length-drop, length-map, take-append-drop, List·getD-append}
+use lib.Seq.{drop-cons, drop-append-le, take-take, length-take-le, getD-append-add, take-at}
 use borrow.Author.Tests.{eq-eqb}
 use Rattle.error.specs.Refusal.{Told, yes, no, onYes}
 use Rattle.addr.specs.declared.BusAddr.{BusAddr}
 use Rattle.addr.specs.Address.{addressRule}
 use Rattle.stuffing.specs.Stuff.{unescapeOf, sum16}
-use Rattle.stuffing.specs.Unstuff.{after, unstuff, bytesOf, byteAt, offsetAt}
+use Rattle.stuffing.specs.Unstuff.{after, unstuff, bytesOf, byteAt}
 use Rattle.stuffing.specs.Proper.{Proper, kept, widthOf, valueOf}
 use Rattle.stuffing.proofs.Proper.{units, unstuff-proper, isYes, proper-of, length-units, kept-most}
 use Rattle.stuffing.proofs.Parting.{proper-append, kept-append, kept-none, unstuff-join, value-plain, FrontAt, front-at, cutOf, Back, back}
-use Rattle.frame.specs.Wire.{Fields, fields}
-use Rattle.frame.specs.declared.RawFrame.{RawFrame}
+use Rattle.frame.specs.Wire.{fields}
 use Rattle.frame.specs.Rule.{then, rawFrame, receivedOf, computedOf, payloadOf, addressesRule, headerOf}
 use Rattle.frame.specs.Walk.{raw, Starts, Ends, headRule}
 use Rattle.frame.proofs.Walking.{raw-proper}

@@ -7,10 +7,10 @@ use native.Mathlib.Nat.{zero-add}
 use native.Mathlib.Omega.{arith}
 use lib.ListN.{length, take, drop, getD, length-append, List·getD-map}
 use lib.Seq.{take-at, getD-at, getD-append-add}
-use Rattle.error.specs.Refusal.{Told, yes, no}
+use Rattle.error.specs.Refusal.{Told, yes}
 use Rattle.addr.proofs.Back.{address-back}
 use Rattle.stuffing.specs.Stuff.{stuff, sum16}
-use Rattle.stuffing.specs.Unstuff.{unstuff, bytesOf, byteAt, offsetAt}
+use Rattle.stuffing.specs.Unstuff.{unstuff, byteAt, offsetAt}
 use Rattle.stuffing.proofs.Stuffing.{stuff-append, stuff-least}
 use Rattle.stuffing.proofs.Unstuffing.{placed, unstuff-stuff, bytes-placed, length-placed, offset-placed}
 use Rattle.frame.specs.Wire.{Fields, fields, bodyOf, csOf, wireOf}

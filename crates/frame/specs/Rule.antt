@@ -2,7 +2,7 @@
 -- A refusal is its number and values; a refused call writes nothing (`filled`).
 use Prim.Native.Nat.{ℕ, _+_, _-_, _*_}
 use mathlib.Core.Bool.{cond, not}
-use mathlib.Core.List.{List, [], _∷_, _++_}
+use mathlib.Core.List.{List, [], _∷_}
 use lib.Dec.{eqb, ltb}
 use lib.ListN.{length, getD, take, drop}
 use Rattle.error.specs.Refusal.{Told, yes, no, refused}

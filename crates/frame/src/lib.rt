@@ -1,10 +1,9 @@
 // Frames of frame.rs: F0, stuffed(DEST SRC TYPE PAYLOAD CS_HI CS_LO), F1. `RawFrame::encode` writes a wire, `RawFrame::parse` reads one.
 // Each answers and writes what specs/Rule says; parsing what encoding wrote gives the fields back (proofs/Round).
 ghost use mathlib.Core.Path.{_≡_};
-ghost use mathlib.Core.List.{List, _++_};
-ghost use Prim.Native.Nat.{ℕ, _+_, _-_, _*_, _<_, _≤_};
+ghost use mathlib.Core.List.{_++_};
+ghost use Prim.Native.Nat.{_+_, _-_, _*_, _<_, _≤_};
 ghost use lib.ListN.{length, take, drop, getD};
-ghost use lib.Seq.{sets};
 ghost use Rattle.error.specs.Refusal.{yes, onYes};
 ghost use Rattle.error.specs.Result.{toldUsize};
 ghost use Rattle.stuffing.specs.Unstuff.{unstuff};

@@ -6,3 +6,4 @@ pub mod Unstuffing
 pub mod Proper
 pub mod Parting
 pub mod Blocks
+pub mod One

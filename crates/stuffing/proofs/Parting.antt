@@ -1,17 +1,14 @@
 -- Proper strings taken apart: joined ones unstuff to both, and each has a first unstuffed byte and a last one.
 -- Assumes nothing.
-use mathlib.Core.Path.{_≡_, refl, sym, ap, _∙_}
-use mathlib.Core.Bool.{cond}
+use mathlib.Core.Path.{_≡_, refl, ap, _∙_}
 use mathlib.Core.List.{List, [], _∷_, _++_}
-use Prim.Native.Nat.{ℕ, zero, suc, _+_, _-_, _≤_, _<_}
+use Prim.Native.Nat.{ℕ, suc, _+_, _-_, _≤_, _<_}
 use native.Mathlib.Nat.{add-zero}
-use native.Mathlib.Numerals.{add-one}
 use native.Mathlib.Omega.{arith}
-use lib.Dec.{eqb}
 use lib.ListN.{length, take, drop, getD, length-drop}
-use lib.Seq.{drop-drop, getD-drop, drop-cons}
+use lib.Seq.{drop-drop, getD-drop}
 use borrow.Author.Tests.{eq-eqb, ne-eqb}
-use Rattle.error.specs.Refusal.{Told, yes, no, onYes}
+use Rattle.error.specs.Refusal.{Told, yes}
 use Rattle.stuffing.specs.Stuff.{unescapeOf}
 use Rattle.stuffing.specs.Unstuff.{escapeAt, stepAt, after, unstuff}
 use Rattle.stuffing.specs.Proper.{Proper, none, byte, escape, kept, widthOf, valueOf}

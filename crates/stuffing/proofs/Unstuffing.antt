@@ -1,7 +1,6 @@
 -- Unstuffing a stuffed string gives its bytes back, each at its offset; so two different strings never stuff alike.
 -- Assumes nothing.
 use mathlib.Core.Path.{_≡_, refl, sym, ap, _∙_}
-use mathlib.Core.Bool.{cond}
 use mathlib.Core.List.{List, [], _∷_, _++_}
 use Prim.Native.Nat.{ℕ, _+_, _≤_, _<_}
 use native.Mathlib.Omega.{arith}
@@ -10,8 +9,8 @@ use native.Mathlib.Numerals.{add-one}
 use lib.Dec.{eqb}
 use lib.ListN.{length, drop, getD, length-append, length-map}
 use lib.Seq.{drop-cons, drop-drop}
-use borrow.Author.Tests.{eq-eqb, ne-eqb}
-use Rattle.error.specs.Refusal.{Told, yes, no, onYes}
+use borrow.Author.Tests.{ne-eqb}
+use Rattle.error.specs.Refusal.{yes, onYes}
 use Rattle.error.proofs.Cases.{by-test, by-eq}
 use Rattle.stuffing.specs.Stuff.{escapeOf, unescapeOf, stuffByte, stuff}
 use Rattle.stuffing.specs.Proper.{widthOf}

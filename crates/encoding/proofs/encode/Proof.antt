@@ -1,7 +1,7 @@
 -- `RawFrame::encode` meets its contract: each return is the rule's case.
 use borrow.Author.Needs.{needs}
-use mathlib.Core.Path.{_≡_, refl, sym, ap, _∙_}
-use Prim.Native.Nat.{ℕ, _≤_}
+use mathlib.Core.Path.{refl, ap, _∙_}
+use Prim.Native.Nat.{_≤_}
 use lib.ListN.{length}
 use Rattle.error.specs.Refusal.{yes}
 use Rattle.encoding.specs.Wire.{Fields, fields, wireOf}

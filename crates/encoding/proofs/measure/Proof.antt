@@ -1,11 +1,10 @@
 -- `measure` meets its contract: the parts of a wire are tallied one by one.
 use borrow.Author.Needs.{needs}
-use mathlib.Core.Path.{_≡_, sym, ap, _∙_}
+use mathlib.Core.Path.{_≡_, sym, _∙_}
 use mathlib.Core.List.{List, [], _∷_}
-use Prim.Native.Nat.{ℕ, _+_, _%_}
+use Prim.Native.Nat.{ℕ}
 use Rattle.addr.specs.Address.{byteOf}
-use Rattle.stuffing.specs.Stuff.{stuff, sum16}
-use Rattle.encoding.specs.Wire.{Fields, fields, csOf}
+use Rattle.encoding.specs.Wire.{fields, csOf}
 use Rattle.encoding.proofs.Writing.{cs-is, wire-measured}
 use Rattle.encoding.proofs.measure.Statement.{statement}
 use Rattle.encoding.proofs.measure.Tie as tie

@@ -1,7 +1,7 @@
 -- `put_byte` meets its contract: its two stores are those of the stuffed byte.
 use borrow.Author.Needs.{needs}
-use mathlib.Core.Path.{_≡_, sym, _∙_}
-use Prim.Native.Nat.{ℕ, _+_}
+use mathlib.Core.Path.{_≡_}
+use Prim.Native.Nat.{_+_}
 use native.Mathlib.Omega.{arith}
 use lib.ListN.{length, length-set}
 use Rattle.stuffing.specs.Stuff.{stuffByte}

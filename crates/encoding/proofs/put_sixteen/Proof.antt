@@ -1,7 +1,7 @@
 -- `put_sixteen` meets its contract: a block with no code is its own stuffed form.
 use borrow.Author.Needs.{needs}
 use borrow.Author.Tests.{le-leb}
-use mathlib.Core.Path.{_≡_, sym, ap, _∙_}
+use mathlib.Core.Path.{_≡_, ap, _∙_}
 use Prim.Native.Nat.{_+_}
 use native.Mathlib.Omega.{arith}
 use lib.ListN.{length, replicate}
@@ -17,13 +17,13 @@ is-block c =
     c .block .ensures ∙ take-at (a .args .s .now) (replicate 16 0) 16 (a .pre .0)
 
 same : (c : tie.Then1) → stuff (c .before .before .before .before .before .args .s .now) ≡ c .before .before .before .before .before .args .s .now
-same c = rw (is-block (c .before .before)) at (c .before .codes .ensures (c .if1 .taken))
+same c = rw (is-block (c .before .before)) at (c .before .least-rank .ensures (c .if1 .taken))
 
 block-requires : tie.Need-block-requires
 block-requires c κs = search needs
 
-codes-requires : tie.Need-codes-requires
-codes-requires c κs = search needs
+least-rank-requires : tie.Need-least-rank-requires
+least-rank-requires c κs = search needs
 
 put-block-requires : tie.Need-put-block-requires
 put-block-requires c κs = search needs
@@ -56,7 +56,7 @@ put-sixteen-spec =
     tie.close
     (tie.spec
     block-requires
-    codes-requires
+    least-rank-requires
     put-block-requires
     add-result
     same-length

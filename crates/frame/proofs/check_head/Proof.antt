@@ -1,7 +1,6 @@
 -- `check_head` meets its contract: DEST, then SRC, each as its byte tells.
 use borrow.Author.Needs.{needs}
 use mathlib.Core.Path.{_≡_, refl, sym, ap, _∙_}
-use Prim.Native.Nat.{ℕ}
 use lib.ListN.{drop}
 use Rattle.error.specs.Refusal.{Told, yes}
 use Rattle.addr.specs.declared.BusAddr.{BusAddr}

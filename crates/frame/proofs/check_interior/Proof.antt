@@ -1,16 +1,11 @@
 -- `check_interior` meets its contract: an interior that does not unstuff is refused, and one of fewer than five bytes.
 use borrow.Author.Needs.{needs}
-use mathlib.Core.Path.{_≡_, refl, sym, ap, _∙_}
-use mathlib.Core.List.{List, [], _∷_}
-use Prim.Native.Nat.{ℕ, _≤_, _<_}
-use native.Mathlib.Omega.{arith}
+use mathlib.Core.Path.{sym, ap, _∙_}
+use Prim.Native.Nat.{_≤_, _<_}
 use lib.ListN.{length}
-use Rattle.error.specs.Refusal.{Told, yes, no, onYes, numberOf, valuesOf}
+use Rattle.error.specs.Refusal.{numberOf, valuesOf}
 use Rattle.error.specs.Result.{toldUsize}
 use Rattle.stuffing.specs.Unstuff.{unstuff}
-use Rattle.stuffing.specs.Proper.{kept}
-use Rattle.stuffing.proofs.Proper.{length-units}
-use Rattle.frame.specs.Rule.{then, unitsRule, headerOf}
 use Rattle.frame.proofs.Cases.{few, many}
 use Rattle.frame.proofs.Reading.{Counted, counted-no, counted-yes}
 use Rattle.frame.proofs.check_interior.Statement.{statement}

@@ -1,18 +1,18 @@
 -- `check_sum` meets its contract: the checksum is tested against the stuffed bytes before it, and then the head is read.
 use borrow.Author.Needs.{needs}
-use mathlib.Core.Path.{_≡_, refl, sym, ap, _∙_}
+use mathlib.Core.Path.{_≡_, sym, ap, _∙_}
 use mathlib.Core.List.{List, [], _∷_, _++_}
 use Prim.Native.Nat.{ℕ, _+_, _-_, _≤_}
 use native.Mathlib.Omega.{arith}
 use lib.ListN.{length, take, drop, getD}
 use lib.Seq.{length-take-le}
-use Rattle.error.specs.Refusal.{Told, yes, no, onYes}
+use Rattle.error.specs.Refusal.{Told, no, onYes}
 use Rattle.stuffing.specs.Unstuff.{unstuff}
-use Rattle.stuffing.specs.Proper.{kept, widthOf, valueOf}
+use Rattle.stuffing.specs.Proper.{widthOf, valueOf}
 use Rattle.stuffing.proofs.Proper.{unstuff-proper}
 use Rattle.frame.specs.Wire.{Fields}
 use Rattle.frame.specs.Rule.{then, receivedOf, computedOf, addressesRule, sumRule, headerOf}
-use Rattle.frame.specs.Walk.{Ends, headRule}
+use Rattle.frame.specs.Walk.{headRule}
 use Rattle.frame.proofs.Cases.{mismatch, matching}
 use Rattle.frame.proofs.Reading.{received-is, computed-is, head-is, body-units, units-are, body-kept, length-body}
 use Rattle.frame.proofs.check_sum.Statement.{statement}

@@ -1,14 +1,13 @@
 -- `copy_interior` meets its contract: what stands between the head and the checksum is the payload.
 use borrow.Author.Needs.{needs}
-use mathlib.Core.Path.{_≡_, refl, sym, ap, _∙_}
+use mathlib.Core.Path.{_≡_, sym, ap, _∙_}
 use mathlib.Core.List.{List}
-use Prim.Native.Nat.{ℕ, _+_, _-_, _≤_}
+use Prim.Native.Nat.{ℕ, _-_, _≤_}
 use native.Mathlib.Omega.{arith}
 use lib.ListN.{length, take, drop, length-drop}
 use lib.Seq.{length-take-le, take-all}
 use Rattle.error.specs.Refusal.{yes}
 use Rattle.stuffing.specs.Proper.{kept}
-use Rattle.frame.specs.Walk.{raw, slots}
 use Rattle.frame.proofs.Walking.{slots-proper}
 use Rattle.frame.proofs.Reading.{body-units, body-kept, length-body, payload-kept, payload-raw}
 use Rattle.frame.proofs.copy_interior.Statement.{statement}

@@ -1,13 +1,10 @@
 -- `copy_payload` meets its contract: a wire that was checked has a proper interior of five bytes more than its payload.
 use borrow.Author.Needs.{needs}
-use mathlib.Core.Path.{_≡_, refl, sym, ap, _∙_}
-use Prim.Native.Nat.{ℕ, _+_, _-_, _≤_}
+use mathlib.Core.Path.{_≡_, _∙_}
+use Prim.Native.Nat.{_-_}
 use native.Mathlib.Omega.{arith}
 use lib.ListN.{length, take, drop}
-use Rattle.error.specs.Refusal.{Told, yes, onYes}
-use Rattle.stuffing.specs.Unstuff.{unstuff}
-use Rattle.frame.specs.Wire.{Fields}
-use Rattle.frame.specs.Rule.{interior, payloadOf, checkRule}
+use Rattle.frame.specs.Rule.{interior}
 use Rattle.frame.proofs.Checked.{Opened, opened}
 use Rattle.frame.proofs.copy_payload.Statement.{statement}
 use Rattle.frame.proofs.copy_payload.Tie as tie

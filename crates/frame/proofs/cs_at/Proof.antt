@@ -1,11 +1,9 @@
 -- `cs_at` meets its contract: two unstuffed bytes are cut off at the end.
-use mathlib.Core.Path.{_≡_, refl, sym, _∙_}
-use mathlib.Core.List.{List}
-use Prim.Native.Nat.{ℕ, _<_, _≤_}
+use mathlib.Core.Path.{refl, sym}
+use Prim.Native.Nat.{_<_, _≤_}
 use native.Mathlib.Omega.{arith}
 use lib.ListN.{length, take}
 use lib.Seq.{length-take-le}
-use Rattle.stuffing.specs.Proper.{kept}
 use Rattle.stuffing.proofs.Proper.{kept-most}
 use Rattle.stuffing.proofs.Parting.{cutOf}
 use Rattle.frame.specs.Walk.{Ends}

@@ -1,10 +1,9 @@
 -- `received` meets its contract: the checksum's two bytes are read one after the other.
 use borrow.Author.Needs.{needs}
-use mathlib.Core.Path.{_≡_, sym, ap, _∙_}
+use mathlib.Core.Path.{ap, _∙_}
 use Prim.Native.Nat.{ℕ, _+_, _*_}
-use native.Mathlib.Omega.{arith}
-use lib.ListN.{drop, getD}
-use Rattle.stuffing.specs.Proper.{widthOf, valueOf}
+use lib.ListN.{drop}
+use Rattle.stuffing.specs.Proper.{valueOf}
 use Rattle.frame.proofs.Reading.{high-inside, low-proper, low-inside}
 use Rattle.frame.proofs.received.Statement.{statement}
 use Rattle.frame.proofs.received.Tie as tie

@@ -1,6 +1,6 @@
 -- `value` meets its contract: a byte that is not FD stands for itself, and FD for what its code says.
 use borrow.Author.Needs.{needs}
-use mathlib.Core.Path.{_≡_, sym, _∙_}
+use mathlib.Core.Path.{sym, _∙_}
 use Rattle.frame.proofs.Reading.{value-one, escape-inside, value-two}
 use Rattle.frame.proofs.value.Statement.{statement}
 use Rattle.frame.proofs.value.Tie as tie

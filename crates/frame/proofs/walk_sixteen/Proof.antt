@@ -1,14 +1,13 @@
 -- `walk_sixteen` meets its contract: a block with no FD stands for itself.
 use borrow.Author.Needs.{needs}
 use borrow.Author.Tests.{eq-eqb}
-use mathlib.Core.Path.{_≡_, refl, sym, ap, _∙_}
-use Prim.Native.Nat.{ℕ, _+_, _≤_}
+use mathlib.Core.Path.{_≡_, _∙_}
+use Prim.Native.Nat.{_+_, _≤_}
 use native.Mathlib.Omega.{arith}
 use lib.ListN.{length, replicate}
 use lib.Seq.{take-at}
 use Rattle.stuffing.specs.Proper.{kept}
 use Rattle.stuffing.proofs.Proper.{both-zero}
-use Rattle.frame.specs.Walk.{raw, slots}
 use Rattle.frame.proofs.Walking.{kept-slots, block-walked}
 use Rattle.frame.proofs.walk_sixteen.Statement.{statement}
 use Rattle.frame.proofs.walk_sixteen.Tie as tie

@@ -1,12 +1,12 @@
 -- `block` meets its contract: the first k bytes are the string's, and zeros behind it.
 use borrow.Author.Needs.{needs}
-use mathlib.Core.Path.{_≡_, refl, sym, ap, _∙_}
+use mathlib.Core.Path.{_≡_, refl, sym, _∙_}
 use mathlib.Core.List.{List, _++_}
 use Prim.Native.Nat.{ℕ, _+_, _-_, _≤_, _<_}
 use native.Mathlib.Numerals.{add-one}
 use native.Mathlib.Nat.{le-antisymm}
 use native.Mathlib.Omega.{arith}
-use lib.ListN.{length, take, getD, set, replicate, length-set, length-append, length-replicate}
+use lib.ListN.{length, take, getD, set, replicate, length-set, length-append}
 use lib.Seq.{take-all, take-suc, take-suc-set}
 use Rattle.stuffing.proofs.Blocks.{behind}
 use Rattle.stuffing.proofs.block.Statement.{statement}

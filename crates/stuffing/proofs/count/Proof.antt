@@ -1,15 +1,13 @@
 -- `count` meets its contract: the bytes that are passed and those that the rest unstuffs to make the whole count.
 use borrow.Author.Needs.{needs}
 use mathlib.Core.Path.{_≡_, refl, sym, ap, _∙_}
-use mathlib.Core.Bool.{cond}
 use mathlib.Core.List.{List, []}
-use Prim.Native.Nat.{ℕ, _+_, _-_, _≤_, _<_}
+use Prim.Native.Nat.{ℕ, _+_, _-_, _≤_}
 use native.Mathlib.Omega.{arith}
-use lib.Dec.{eqb}
 use lib.ListN.{length, drop, getD, drop-of-length-le}
 use Rattle.error.specs.Refusal.{Told, yes, no, onYes}
 use Rattle.stuffing.specs.Proper.{widthOf}
-use Rattle.stuffing.specs.Unstuff.{toldU8, stepAt, after, unstuff}
+use Rattle.stuffing.specs.Unstuff.{toldU8, after, unstuff}
 use Rattle.stuffing.proofs.Unstuffing.{width-most, unstuff-at}
 use Rattle.stuffing.proofs.count.Statement.{statement}
 use Rattle.stuffing.proofs.count.Tie as tie

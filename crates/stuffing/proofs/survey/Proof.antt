@@ -9,7 +9,6 @@ use lib.Bits.{bitOr}
 use lib.Dec.{eqb}
 use lib.ListN.{length, drop, getD, drop-of-length-le}
 use lib.Seq.{drop-cons}
-use Rattle.error.proofs.Cases.{by-eq}
 use Rattle.stuffing.specs.Proper.{Proper, none, kept}
 use Rattle.stuffing.proofs.Proper.{faultOf, proper-pair, proper-last, both-zero, kept-flag}
 use Rattle.stuffing.proofs.Sums.{counted}

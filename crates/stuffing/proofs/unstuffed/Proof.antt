@@ -1,12 +1,11 @@
 -- `unstuffed` meets its contract: a proper string unstuffs to its bytes without the FDs, and these are fewer than 65,536.
 use borrow.Author.Needs.{needs}
 use mathlib.Core.Path.{_≡_, sym, ap, _∙_}
-use Prim.Native.Nat.{ℕ, _+_, _-_}
+use Prim.Native.Nat.{_+_, _-_}
 use native.Mathlib.Omega.{arith}
 use lib.ListN.{length}
 use Rattle.error.specs.Refusal.{Told, yes, onYes}
 use Rattle.stuffing.specs.Proper.{Proper, kept}
-use Rattle.stuffing.specs.Unstuff.{unstuff}
 use Rattle.stuffing.proofs.Proper.{unstuff-proper, length-units, kept-most}
 use Rattle.stuffing.proofs.unstuffed.Statement.{statement}
 use Rattle.stuffing.proofs.unstuffed.Tie as tie

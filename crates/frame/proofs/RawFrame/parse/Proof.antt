@@ -1,12 +1,11 @@
 -- `RawFrame::parse` meets its contract: a wire is checked, then the room is tested, then its payload is copied.
 use borrow.Author.Needs.{needs}
 use mathlib.Core.Path.{_≡_, refl, sym, ap, _∙_}
-use mathlib.Core.List.{List, _++_}
-use Prim.Native.Nat.{ℕ, _≤_, _<_}
-use native.Mathlib.Omega.{arith}
-use lib.ListN.{length, take, drop}
+use mathlib.Core.List.{_++_}
+use Prim.Native.Nat.{_≤_, _<_}
+use lib.ListN.{length, drop}
 use lib.Seq.{length-take-le}
-use Rattle.error.specs.Refusal.{Told, yes, no, onYes, numberOf, valuesOf}
+use Rattle.error.specs.Refusal.{yes, onYes, numberOf, valuesOf}
 use Rattle.frame.specs.declared.RawFrame.{RawFrame}
 use Rattle.frame.specs.Rule.{checkRule, headerOf, toldRawFrame}
 use Rattle.frame.proofs.Cases.{parse-refused, parse-room, parse-fits}
