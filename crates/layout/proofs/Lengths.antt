@@ -5,7 +5,7 @@ use mathlib.Core.Path.{_≡_, sym, _∙_}
 use mathlib.Core.List.{List}
 use lib.ListN.{length, take}
 use borrow.Author.Tests.{lt-ltb, le-ltb}
-use Rattle.error.specs.Refusal.{Told, yes, refused}
+use Rattle.error.specs.Refusal.{yes, refused}
 use Rattle.error.specs.Result.{toldUnit}
 use Rattle.error.specs.declared.WireError.the-variants.{PayloadTooShort}
 use Rattle.error.specs.declared.ResultUnit.{ResultUnit}

@@ -1,7 +1,7 @@
 -- `read_element` meets its contract: each call answers a field of the table, in the part that is the element.
 -- Assumes nothing.
 use borrow.Author.Needs.{needs}
-use Prim.Native.Nat.{ℕ, _+_, _-_}
+use Prim.Native.Nat.{_+_, _-_}
 use mathlib.Core.Path.{_≡_, _∙_, ap}
 use native.Mathlib.Omega.{arith}
 use lib.Ieee.{ofInt, ofBits}

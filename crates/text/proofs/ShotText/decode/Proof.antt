@@ -1,8 +1,8 @@
 -- `ShotText::decode` meets its contract: the back is cut first, then the front of what is left.
 -- Assumes nothing.
 use borrow.Author.Needs.{needs}
-use Prim.Native.Nat.{ℕ, _+_}
-use mathlib.Core.Path.{sym, ap}
+use Prim.Native.Nat.{_+_}
+use mathlib.Core.Path.{sym}
 use lib.ListN.{take}
 use lib.Seq.{length-take-le}
 use Rattle.text.proofs.Cuts.{text-is, start-is}
