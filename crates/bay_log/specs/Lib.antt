@@ -1,0 +1,2 @@
+-- What the log's contract cites.
+pub mod Log

@@ -1,0 +1,57 @@
+// The bay log: one record of 32 bytes for a shot, from its event number and its D4 payload.
+// The record fills the front of the lent buffer and the rest keeps its bytes; a refusal writes nothing.
+ghost use mathlib.Core.Path.{_≡_};
+ghost use Rattle.error.specs.Result.{toldUnit};
+ghost use Rattle.integer.specs.Fields.{intAt, intBytes, written};
+ghost use Rattle.bay_log.specs.Log.{shownOf, logRule};
+use error::ResultUnit;
+use error::WireError;
+use integer::int24_at;
+use integer::write_int24;
+use integer::write_int32;
+use integer::write_uint32;
+
+// Places in the buffer are the record's, places in the payload D4's.
+pub fn write_record(buf: &mut [u8], event: u32, payload: &[u8]) -> ResultUnit
+    ensures { λ r. ⌜ (toldUnit r, now (buf .exit)) ≡ logRule event (now (payload .entry)) (now (buf .entry)) ⌝ }
+{
+    let got = payload.len();
+    if got < 157 {
+        return ResultUnit::Err(WireError::PayloadTooShort {
+            kind: 0xD4,
+            need: 157,
+            got,
+        });
+    }
+    let room = buf.len();
+    if room < 32 {
+        return ResultUnit::Err(WireError::NoRoom {
+            need: 32,
+            got: room,
+        });
+    }
+    write_uint32(buf, 0, event);
+    buf[4] = 0xD4;
+    write_int24(buf, 5, int24_at(payload, 1)); // total
+    write_shown(buf, 8, payload, 16); // launch speed
+    write_shown(buf, 12, payload, 19); // azimuth
+    write_shown(buf, 16, payload, 22); // elevation
+    write_shown(buf, 20, payload, 25); // carry
+    write_shown(buf, 24, payload, 31); // max height
+    write_int32(buf, 28, int24_at(payload, 43)); // backspin
+    ResultUnit::Ok
+}
+
+// The shown figure of the number at a place of the payload, written at a place of the buffer.
+fn write_shown(buf: &mut [u8], offset: usize, payload: &[u8], at: usize)
+    ensures { λ _. ⌜ now (buf .exit) ≡ written (intBytes 4 (shownOf (intAt 3 (now (payload .entry)) at))) (now (buf .entry)) offset ⌝ }
+{
+    write_int32(buf, offset, shown(int24_at(payload, at)));
+}
+
+// Thousandths as the log shows them: tenths, toward zero.
+fn shown(thousandths: i32) -> i32
+    ensures { λ r. ⌜ r ≡ shownOf thousandths ⌝ }
+{
+    thousandths / 100
+}

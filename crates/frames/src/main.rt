@@ -1,0 +1,85 @@
+// Reads standard input to its end, and prints document 01's line for each event and the line at the end.
+// The work on a piece is `session`'s, proved; here a piece is read, and its lines are written in one go.
+ghost use mathlib.Core.Path.{_≡_};
+ghost use lib.ListN.{length};
+use error::ResultUsize;
+use session::Session;
+
+struct Turn {
+    session: Session,
+    going: bool,
+}
+
+fn main() {
+    let mut hold = [0u8; 2048];
+    let mut payload = [0u8; 2048];
+    let mut piece = [0u8; 8192];
+    let mut lines = line_buffer();
+    let session = print_all(&mut hold, &mut payload, &mut piece, &mut lines);
+    let splitter = session.splitter;
+    let reply = report::end_line(splitter.count, splitter.skipping, &mut lines);
+    print(reply, &lines);
+}
+
+// Room for the lines of a piece of 8,192 bytes. The contract gives the length, which lending it needs.
+fn line_buffer() -> [u8; 1048576]
+    ensures { λ r. ⌜ 1048576 ≡ length r ⌝ }
+{
+    [0; 1048576]
+}
+
+// A proved loop has to end, and nothing says that the input does: the turns are counted down from a
+// number that no run uses up.
+fn print_all(hold: &mut [u8], payload: &mut [u8], piece: &mut [u8], lines: &mut [u8]) -> Session {
+    let mut session = Session::new();
+    let mut turns = u64::MAX;
+    while turns > 0 {
+        let turn = print_piece(session, hold, payload, piece, lines);
+        session = turn.session;
+        if !turn.going {
+            break;
+        }
+        turns -= 1;
+    }
+    session
+}
+
+// Reads once, prints the lines of what came, and says whether to go on.
+fn print_piece(
+    session: Session,
+    hold: &mut [u8],
+    payload: &mut [u8],
+    piece: &mut [u8],
+    lines: &mut [u8],
+) -> Turn {
+    let got = libc::read(libc::STDIN_FILENO, piece);
+    if got < 0 {
+        io::write_all(
+            libc::STDERR_FILENO,
+            b"frames: standard input cannot be read\n",
+        );
+    }
+    if got <= 0 {
+        return Turn {
+            session,
+            going: false,
+        };
+    }
+    let n = io::count(got, piece);
+    let ran = session.piece(hold, payload, &piece[..n], lines);
+    let reply = ran.reply;
+    let session = ran.session;
+    let going = print(reply, lines);
+    Turn { session, going }
+}
+
+fn print(reply: ResultUsize, lines: &[u8]) -> bool {
+    let written = io::write_all(libc::STDOUT_FILENO, session::text_of(reply, lines));
+    if !written {
+        io::write_all(
+            libc::STDERR_FILENO,
+            b"frames: standard output cannot be written\n",
+        );
+    }
+    written
+}

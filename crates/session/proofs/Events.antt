@@ -1,0 +1,50 @@
+-- One event: a line that fits is put, and what one call of the splitter comes to.
+-- Assumes nothing.
+use Prim.Native.Nat.{ℕ, _≤_}
+use mathlib.Core.Path.{_≡_, refl, sym, ap, _∙_}
+use mathlib.Core.List.{List, [], _∷_, _++_}
+use native.Mathlib.Omega.{arith}
+use lib.Dec.{lit≤}
+use lib.ListN.{length, drop}
+use borrow.Author.Tests.{le-leb}
+use Rattle.error.specs.Refusal.{Told, yes, no, onYes}
+use Rattle.frame.specs.Rule.{filled}
+use Rattle.report.specs.Line.{Lined, fitted}
+use Rattle.splitter.specs.declared.Fed.{Fed}
+use Rattle.splitter.specs.Feed.{Given, feedRule, toldEvent}
+use Rattle.splitter.specs.Feed.{shown as shownFed}
+use Rattle.splitter.specs.Stream.{Said, saidOf}
+use Rattle.session.specs.declared.Step.{Step}
+use Rattle.session.specs.Lines.{lineTo, numberTo}
+use Rattle.session.specs.Piece.{Stage, stage, fed, said, textOf, stageAfter, payloadTo}
+use Rattle.session.specs.Event.{countOf, Wrote, Stepped}
+
+pub wrote : (text old : List ℕ) (told : Told ℕ) (new : List ℕ) → Lined text old told new → 128 ≤ length old → Wrote text old (countOf told) new
+unfolding fitted
+wrote text old told new l h =
+    let s : length text ≤ length old = omega (arith, l .short) in
+    let f : fitted text (length old) ≡ yes text = rw (le-leb _ _ s) in
+    record {
+      count = ap countOf (l .reply ∙ ap (onYes length) f);
+      bytes = l .bytes ∙ ap (λ (x : Told (List ℕ)). filled x old) f;
+      short = l .short;
+    }
+
+-- r is a reply of `feed` with its hold buffer h′, and a what it says
+pub stepped :
+    (t : Stage) (c out : List ℕ) (f : Fed) (h′ : List ℕ) → shownFed f h′ ≡ fed t c
+    → (a : Said) → saidOf c h′ (toldEvent (f .event)) ≡ a
+    → (w : ℕ) (p′ new : List ℕ) → p′ ≡ payloadTo (t .payload) a → Wrote (lineTo (length (t .payload)) (t .session .number) a) out w new
+    → Stepped t c out (record { session = record { splitter = f .splitter; number = numberTo (t .session .number) a }; taken = f .taken; written = w }) h′ p′ new
+stepped t c out f h′ e a s w p′ new k l =
+    let q : a ≡ said t c = sym s ∙ ap (λ (g : Given). saidOf c (g .held) (g .answer)) e in
+    record {
+      taken = ap (λ (g : Given). g .taken) e;
+      after =
+          λ i. stage (record { splitter = e i .state; number = numberTo (t .session .number) (q i) }) (e i .held) ((k ∙ ap (payloadTo (t .payload)) q) i);
+      line = rw q at l;
+    }
+
+-- nothing is put where nothing is said
+pub silent : (out : List ℕ) → Wrote [] out 0 out
+silent out = record { count = refl; bytes = refl; short = lit≤ tt }

@@ -1,0 +1,26 @@
+-- What the private parts of a piece's work promise: one event's line at the front of a buffer, and one call's whole effect.
+-- `pieceRule` is the whole; these are its steps.
+use Prim.Native.Nat.{ℕ, _≤_}
+use mathlib.Core.Path.{_≡_}
+use mathlib.Core.List.{List, _++_}
+use lib.ListN.{length, drop}
+use Rattle.error.specs.Refusal.{Told, yes, no}
+use Rattle.session.specs.declared.Step.{Step}
+use Rattle.session.specs.Piece.{Stage, stage, fed, textOf, stageAfter}
+
+-- the bytes of a line that was put; none of one that was refused
+abbrev pub countOf : Told ℕ → ℕ
+countOf (yes n) = n
+countOf (no k vs) = 0
+
+-- a text at a buffer's front: n bytes, and the rest is kept
+pub record Wrote (text old : List ℕ) (n : ℕ) (new : List ℕ) : Type 0 where
+  pub count : n ≡ length text
+  pub bytes : new ≡ text ++ drop (length text) old
+  pub short : length text ≤ 128
+
+-- one call of the splitter at stage t on the chunk c: h, p and new are the buffers after it
+pub record Stepped (t : Stage) (c out : List ℕ) (r : Step) (h p new : List ℕ) : Type 0 where
+  pub taken : r .taken ≡ fed t c .taken
+  pub after : stage (r .session) h p ≡ stageAfter t c
+  pub line : Wrote (textOf t c) out (r .written) new

@@ -1,0 +1,5 @@
+-- What the contracts of `session`, and the theorems on what the program prints, cite.
+pub mod Lines
+pub mod Piece
+pub mod Event
+pub mod Program
