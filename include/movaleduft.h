@@ -45,11 +45,11 @@ uint64_t mvd_flight_result(const uint8_t *payload, size_t payload_len, int32_t *
 uint64_t mvd_flight_result_v1(const uint8_t *payload, size_t payload_len, int32_t *whole, size_t whole_len, double *figures, size_t figures_len, MVD_VALUES);
 uint64_t mvd_club_result(const uint8_t *payload, size_t payload_len, int32_t *whole, size_t whole_len, double *figures, size_t figures_len, MVD_VALUES);
 uint64_t mvd_spin_result(const uint8_t *payload, size_t payload_len, int32_t *whole, size_t whole_len, double *figures, size_t figures_len, MVD_VALUES);
-uint64_t mvd_tracking_status(const uint8_t *payload, size_t payload_len, int32_t *whole, size_t whole_len, MVD_VALUES);
+/* E9: `counts` gets the unsigned numbers, `whole` radar_baseline and the three of track_measure. */
+uint64_t mvd_tracking_status(const uint8_t *payload, size_t payload_len, uint64_t *counts, size_t counts_len, int32_t *whole, size_t whole_len, MVD_VALUES);
 /* `whole`: flags, num_pre, num_post, scale_factor, samples. */
 uint64_t mvd_speed_profile(const uint8_t *payload, size_t payload_len, double *speeds, size_t speeds_len, int32_t *whole, size_t whole_len, double *time_interval, MVD_VALUES);
-/* `whole`: sequence, points. */
-uint64_t mvd_prc_data(const uint8_t *payload, size_t payload_len, int32_t *whole, size_t whole_len, MVD_VALUES);
+uint64_t mvd_prc_data(const uint8_t *payload, size_t payload_len, int16_t *sequence, size_t *points, MVD_VALUES);
 uint64_t mvd_prc_point(const uint8_t *payload, size_t payload_len, size_t index, int32_t *whole, size_t whole_len, double *figures, size_t figures_len, MVD_VALUES);
 size_t mvd_club_prc(const uint8_t *payload, size_t payload_len);
 uint64_t mvd_club_prc_point(const uint8_t *payload, size_t payload_len, size_t index, int32_t *whole, size_t whole_len, double *figures, size_t figures_len, MVD_VALUES);

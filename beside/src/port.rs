@@ -33,11 +33,11 @@ pub mod c {
         pub fn mvd_flight_result_v1(p: *const u8, pn: usize, w: *mut i32, wn: usize, f: *mut f64, fn_: usize, v: *mut u64, vn: usize) -> u64;
         pub fn mvd_club_result(p: *const u8, pn: usize, w: *mut i32, wn: usize, f: *mut f64, fn_: usize, v: *mut u64, vn: usize) -> u64;
         pub fn mvd_spin_result(p: *const u8, pn: usize, w: *mut i32, wn: usize, f: *mut f64, fn_: usize, v: *mut u64, vn: usize) -> u64;
-        pub fn mvd_tracking_status(p: *const u8, pn: usize, w: *mut i32, wn: usize, v: *mut u64, vn: usize) -> u64;
+        pub fn mvd_tracking_status(p: *const u8, pn: usize, c: *mut u64, cn: usize, w: *mut i32, wn: usize, v: *mut u64, vn: usize) -> u64;
         pub fn mvd_speed_profile(
             p: *const u8, pn: usize, s: *mut f64, sn: usize, w: *mut i32, wn: usize, t: *mut f64, v: *mut u64, vn: usize,
         ) -> u64;
-        pub fn mvd_prc_data(p: *const u8, pn: usize, w: *mut i32, wn: usize, v: *mut u64, vn: usize) -> u64;
+        pub fn mvd_prc_data(p: *const u8, pn: usize, sequence: *mut i16, points: *mut usize, v: *mut u64, vn: usize) -> u64;
         pub fn mvd_prc_point(
             p: *const u8, pn: usize, i: usize, w: *mut i32, wn: usize, f: *mut f64, fn_: usize, v: *mut u64, vn: usize,
         ) -> u64;
@@ -271,6 +271,37 @@ fn speed(c: &Case) -> Answer {
     r
 }
 
+/// The unsigned numbers stand apart; the answer has them in the record's order. One of each more is lent, which must stay.
+fn tracking(c: &Case) -> Answer {
+    let mut counts = [MARK; 17];
+    let mut w = [-55_555i32; 5];
+    let (cp, wp) = (counts.as_mut_ptr(), w.as_mut_ptr());
+    let mut r = told(
+        |v, n| unsafe { c::mvd_tracking_status(c.data.as_ptr(), c.data.len(), cp, 17, wp, 5, v, n) },
+        Answer::default,
+    );
+    if r.refusal != 0 {
+        assert!(counts.iter().all(|&n| n == MARK) && w.iter().all(|&n| n == -55_555), "a refusal wrote");
+        return r;
+    }
+    assert!(counts[16] == MARK && w[4] == -55_555, "more was written than the record has");
+    r.whole.extend(counts[..15].iter().map(|&n| n as i128));
+    r.whole.extend(w[..4].iter().map(|&n| n as i128));
+    r.whole.push(counts[15] as i128);
+    r
+}
+
+fn prc_data(c: &Case) -> Answer {
+    let (mut sequence, mut points) = (-5_555i16, 77usize);
+    let (sp, pp): (*mut i16, *mut usize) = (&mut sequence, &mut points);
+    let r = told(|v, n| unsafe { c::mvd_prc_data(c.data.as_ptr(), c.data.len(), sp, pp, v, n) }, Answer::default);
+    if r.refusal != 0 {
+        assert!(sequence == -5_555 && points == 77, "a refusal wrote");
+        return r;
+    }
+    whole(&[sequence as i64, points as i64])
+}
+
 fn text(c: &Case) -> Answer {
     let mut buf = vec![ops::UNTOUCHED; c.data.len() + 1];
     let n = unsafe { c::mvd_shot_text(c.data.as_ptr(), c.data.len(), buf.as_mut_ptr(), buf.len()) };
@@ -331,11 +362,9 @@ pub fn ask(c: &Case) -> Answer {
         ops::FLIGHT_RESULT_V1 => record(c::mvd_flight_result_v1, c, 4, 27),
         ops::CLUB_RESULT => record(c::mvd_club_result, c, 3, 53),
         ops::SPIN_RESULT => record(c::mvd_spin_result, c, 46, 16),
-        ops::TRACKING_STATUS => {
-            point(|p, n, w, wn, _, _, v, vn| unsafe { c::mvd_tracking_status(p, n, w, wn, v, vn) }, c, 20, 0)
-        }
+        ops::TRACKING_STATUS => tracking(c),
         ops::SPEED_PROFILE => speed(c),
-        ops::PRC_DATA => point(|p, n, w, wn, _, _, v, vn| unsafe { c::mvd_prc_data(p, n, w, wn, v, vn) }, c, 2, 0),
+        ops::PRC_DATA => prc_data(c),
         ops::PRC_POINT => point(
             |p, n, w, wn, x, xn, v, vn| unsafe { c::mvd_prc_point(p, n, c.a as usize, w, wn, x, xn, v, vn) },
             c,
