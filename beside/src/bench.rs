@@ -144,15 +144,17 @@ fn decoding(r: &mut Random, copy: f64) {
     record!("decode E8", FlightResultV1, mvd_flight_result_v1, 94);
     record!("decode ED", ClubResult, mvd_club_result, 167);
     record!("decode EF", SpinResult, mvd_spin_result, 138);
-    let track = |p: &[u8]| sink(unsafe { c::mvd_tracking_status(p.as_ptr(), p.len(), wp, 64, vp, 3) });
+    let (mut counts, mut sequence, mut points) = ([0u64; 16], 0i16, 0usize);
+    let cp = counts.as_mut_ptr();
+    let track = |p: &[u8]| sink(unsafe { c::mvd_tracking_status(p.as_ptr(), p.len(), cp, 16, wp, 64, vp, 3) });
     decode("decode E9", &made(82, &[]), |p| sink(TrackingStatus::decode(p)), track, copy);
     let speed = |p: &[u8]| {
         sink(unsafe { c::mvd_speed_profile(p.as_ptr(), p.len(), xp, 256, wp, 64, &mut t, vp, 3) })
     };
     decode("decode D9", &made(172, &[]), |p| sink(SpeedProfile::decode(p)), speed, copy);
     let prc = |p: &[u8]| unsafe {
-        black_box(c::mvd_prc_data(p.as_ptr(), p.len(), wp, 64, vp, 3));
-        (0..*wp.add(1)).for_each(|i| sink(c::mvd_prc_point(p.as_ptr(), p.len(), i as usize, wp.add(2), 62, xp, 256, vp, 3)));
+        black_box(c::mvd_prc_data(p.as_ptr(), p.len(), &mut sequence, &mut points, vp, 3));
+        (0..points).for_each(|i| sink(c::mvd_prc_point(p.as_ptr(), p.len(), i, wp, 64, xp, 256, vp, 3)));
     };
     decode("decode EC, three points", &made(184, &[183, 0, 0, 3]), |p| sink(PrcData::decode(p)), prc, copy);
     let club_prc = |p: &[u8]| unsafe {
