@@ -1,10 +1,10 @@
--- Runs of stores: one after another, byte by byte, and those of a stuffed byte.
+-- Runs of stores: from the front, and those of a stuffed byte.
 -- Assumes nothing.
 use mathlib.Core.Path.{_≡_, sym, _∙_}
 use mathlib.Core.Bool.{cond}
-use mathlib.Core.List.{List, [], _∷_, _++_}
-use Prim.Native.Nat.{ℕ, suc, _+_, _≤_}
-use native.Mathlib.Nat.{add-zero, zero-add, add-suc, suc-add}
+use mathlib.Core.List.{List, _++_}
+use Prim.Native.Nat.{ℕ, _+_, _≤_}
+use native.Mathlib.Nat.{add-zero, zero-add}
 use native.Mathlib.Numerals.{add-one}
 use native.Mathlib.Omega.{arith}
 use lib.Dec.{eqb}
@@ -14,10 +14,6 @@ use borrow.Author.Tests.{eq-eqb, ne-eqb}
 use Rattle.error.proofs.Cases.{by-eq}
 use Rattle.stuffing.specs.Stuff.{escapeOf, stuffByte}
 use Rattle.stuffing.proofs.Codes.{plain, escaped}
-
-pub sets-append : (a b l : List ℕ) (i : ℕ) → sets (sets l i a) (i + length a) b ≡ sets l i (a ++ b)
-sets-append [] b l i = rw add-zero
-sets-append (x ∷ a) b l i = rw (add-suc, ← suc-add) (sets-append a b (set l i x) (suc i))
 
 -- a run of stores from the front: the list, and what was behind it
 pub front : (w old : List ℕ) → length w ≤ length old → sets old 0 w ≡ w ++ drop (length w) old

@@ -2,3 +2,4 @@
 pub mod Cases
 pub mod Table
 pub mod Decides
+pub mod Stores

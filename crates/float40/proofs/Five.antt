@@ -1,24 +1,19 @@
 -- The five bytes of a FLOAT40: they are five, they are its two fields written one behind the other, and laid over a part they are written.
 -- Assumes nothing.
-use Prim.Native.Nat.{ℕ, suc, _+_, _-_, _≤_}
+use Prim.Native.Nat.{ℕ, _+_, _-_, _≤_}
 use mathlib.Core.Path.{_≡_, sym, ap, _∙_}
-use mathlib.Core.List.{List, [], _∷_, _++_, append-assoc, append-nil}
+use mathlib.Core.List.{List, [], _++_, append-assoc, append-nil}
 use native.Mathlib.Omega.{arith}
-use lib.ListN.{length, set, take, drop, length-append}
+use lib.ListN.{length, take, drop, length-append}
 use lib.Seq.{sets, length-sets, sets-eq, drop-length}
 use borrow.Rule.Slice.PartMut.{putMid, post-is}
+use Rattle.error.proofs.Stores.{sets-append}
 use Rattle.integer.specs.Fields.{intBytes, written}
 use Rattle.integer.proofs.Bytes.{length-int}
 use Rattle.integer.proofs.Reading.{writes}
 use Rattle.float40.specs.Float40.{exp40, man40, bytes40}
 
 -- ---- two runs of bytes, one behind the other, are one run
-
-sets-append : (xs ys s : List ℕ) (i : ℕ) → sets (sets s i xs) (i + length xs) ys ≡ sets s i (xs ++ ys)
-sets-append [] ys s i = let e : i + 0 ≡ i = omega arith in ap (λ (k : ℕ). sets s k ys) e
-sets-append (x ∷ xs) ys s i =
-    let e : i + suc (length xs) ≡ suc i + length xs = omega arith in
-    ap (λ (k : ℕ). sets (sets (set s i x) (suc i) xs) k ys) e ∙ sets-append xs ys (set s i x) (suc i)
 
 joined : (xs ys s : List ℕ) (at : ℕ) → at + length xs + length ys ≤ length s → written ys (written xs s at) (at + length xs) ≡ written (xs ++ ys) s at
 joined xs ys s at room =

@@ -116,7 +116,8 @@ fn lay(buf: &mut [u8], bits: u64)
     integer::write_int24(buf, 2, parts.mantissa);
 }
 
-fn bits_of(value: f64) -> u64
+// The 64 bits of a float, every NaN as one.
+pub fn bits_of(value: f64) -> u64
     ensures { λ r. ⌜ r ≡ bits64 value ⌝ }
 {
     if value != value {

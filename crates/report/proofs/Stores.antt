@@ -1,20 +1,15 @@
--- Runs of stores: one behind another, one in front of another, and a run at the front of a buffer.
+-- Runs of stores: one in front of another, one at the front of a buffer, and what the writers promise.
 -- Assumes nothing.
 use Prim.Native.Nat.{ℕ, suc, _+_, _<_, _≤_}
 use mathlib.Core.Path.{_≡_, refl, sym, ap, _∙_}
 use mathlib.Core.List.{List, [], _∷_, _++_}
-use native.Mathlib.Nat.{add-zero, add-suc, suc-add, add-assoc}
+use native.Mathlib.Nat.{add-assoc}
 use native.Mathlib.Numerals.{add-one}
 use native.Mathlib.Omega.{arith}
 use lib.ListN.{length, take, drop, getD, set, length-append}
 use lib.Seq.{sets, sets-eq, length-sets, set-comm, take-suc, length-take-le}
+use Rattle.error.proofs.Stores.{sets-append}
 use Rattle.report.specs.Put.{Put}
-
-pub sets-then : (d : List ℕ) (at : ℕ) (a b : List ℕ) → sets (sets d at a) (at + length a) b ≡ sets d at (a ++ b)
-sets-then d at [] b = ap (λ (k : ℕ). sets d k b) (add-zero at)
-sets-then d at (x ∷ a) b =
-    ap (λ (k : ℕ). sets (sets (set d at x) (suc at) a) k b) (add-suc at (length a) ∙ sym (suc-add at (length a)))
-    ∙ sets-then (set d at x) (suc at) a b
 
 pub set-before : (d : List ℕ) (i : ℕ) (t : List ℕ) (j x : ℕ) → j < i → set (sets d i t) j x ≡ sets (set d j x) i t
 set-before d i [] j x h = refl
@@ -31,7 +26,7 @@ pub put-then : {a b d e f : List ℕ} {i j k : ℕ} → Put a d i j e → Put b 
 put-then {a} {b} {d} {e} {f} {i} {j} {k} p q =
     record {
       place = q .place ∙ ap (λ (n : ℕ). n + length b) (p .place) ∙ add-assoc i (length a) (length b) ∙ ap (λ (n : ℕ). i + n) (sym (length-append a b));
-      bytes = q .bytes ∙ ap (λ (l : List ℕ). sets l j b) (p .bytes) ∙ ap (λ (n : ℕ). sets (sets d i a) n b) (p .place) ∙ sets-then d i a b;
+      bytes = q .bytes ∙ ap (λ (l : List ℕ). sets l j b) (p .bytes) ∙ ap (λ (n : ℕ). sets (sets d i a) n b) (p .place) ∙ sets-append a b d i;
     }
 
 pub put-length : {a d e : List ℕ} {i j : ℕ} → Put a d i j e → length e ≡ length d
@@ -44,5 +39,5 @@ put-last x p = put-then p (record { place = refl; bytes = refl })
 pub set-then : (d : List ℕ) (at : ℕ) (t : List ℕ) (i : ℕ) → i < length t → set (sets d at (take i t)) (at + i) (getD t i 0) ≡ sets d at (take (i + 1) t)
 set-then d at t i h =
     ap (λ (n : ℕ). set (sets d at (take i t)) (at + n) (getD t i 0)) (sym (length-take-le i t (omega arith)))
-    ∙ sets-then d at (take i t) (getD t i 0 ∷ [])
+    ∙ sets-append (take i t) (getD t i 0 ∷ []) d at
     ∙ ap (sets d at) (sym (ap (λ (n : ℕ). take n t) (add-one i) ∙ take-suc t i 0 h))

@@ -1,0 +1,2 @@
+-- The laws of an answer that passes to C.
+pub mod Passing

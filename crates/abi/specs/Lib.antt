@@ -1,0 +1,2 @@
+-- How an answer passes to C.
+pub mod Answer

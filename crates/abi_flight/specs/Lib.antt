@@ -1,0 +1,2 @@
+-- What the contracts of the exported calls on D4, E8 and ED cite.
+pub mod Records

@@ -1,0 +1,2 @@
+-- How frames and the splitter pass to C.
+pub mod Frames

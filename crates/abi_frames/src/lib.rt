@@ -1,0 +1,122 @@
+// Frames and the splitter, for C: an address is its byte, a splitter's state lies in two lent places, and `feed` answers five words.
+// What a call tells, and every lent place, is the rule of the function of that name; a refusal alters none of them but `values`.
+ghost use mathlib.Core.Path.{_≡_};
+ghost use lib.ListN.{length};
+ghost use Rattle.error.specs.Refusal.{onYes};
+ghost use Rattle.frame.specs.Rule.{filled, parseRule, headerOf};
+ghost use Rattle.splitter.specs.Feed.{feedRule};
+ghost use Rattle.abi.specs.Answer.{flagOf, Passed};
+ghost use Rattle.abi_frames.specs.Frames.{wordsOf, encodedOf, stateOf, leftBy};
+use abi::flag;
+use abi::tell;
+use addr::BusAddr;
+use addr::ResultBusAddr;
+use error::ResultUsize;
+use frame::RawFrame;
+use frame::ResultRawFrame;
+use splitter::Event;
+use splitter::FrameSplitter;
+
+#[no_mangle]
+pub extern "C" fn mvd_parse(
+    wire: &[u8],
+    payload: &mut [u8],
+    header: &mut [u64; 4],
+    values: &mut [u64; 3],
+) -> u64
+    ensures reply { λ k. ⌜ Passed (onYes wordsOf (onYes headerOf (parseRule (now (wire .entry)) (length (now (payload .entry))))))
+        (now (header .entry)) (now (values .entry)) k (now (header .exit)) (now (values .exit)) ⌝ }
+    ensures bytes { λ k. ⌜ now (payload .exit) ≡ filled (onYes (λ f. f .payload) (parseRule (now (wire .entry)) (length (now (payload .entry))))) (now (payload .entry)) ⌝ }
+{
+    match RawFrame::parse(wire, payload) {
+        ResultRawFrame::Ok(f) => {
+            let dest = f.dest;
+            let src = f.src;
+            *header = [
+                dest.as_byte() as u64,
+                src.as_byte() as u64,
+                f.type_id as u64,
+                f.len as u64,
+            ];
+            0
+        }
+        ResultRawFrame::Err(e) => tell(e, values),
+    }
+}
+
+#[no_mangle]
+pub extern "C" fn mvd_encode(
+    dest: u8,
+    src: u8,
+    type_id: u8,
+    payload: &[u8],
+    wire: &mut [u8],
+    len: &mut usize,
+    values: &mut [u64; 3],
+) -> u64
+    ensures reply { λ k. ⌜ Passed (onYes length (encodedOf dest src «type_id» (now (payload .entry)) (length (now (wire .entry)))))
+        (now (len .entry)) (now (values .entry)) k (now (len .exit)) (now (values .exit)) ⌝ }
+    ensures bytes { λ k. ⌜ now (wire .exit) ≡ filled (encodedOf dest src «type_id» (now (payload .entry)) (length (now (wire .entry)))) (now (wire .entry)) ⌝ }
+{
+    match BusAddr::from_byte(dest) {
+        ResultBusAddr::Err(e) => tell(e, values),
+        ResultBusAddr::Ok(d) => match BusAddr::from_byte(src) {
+            ResultBusAddr::Err(e) => tell(e, values),
+            ResultBusAddr::Ok(s) => match RawFrame::encode(d, s, type_id, payload, wire) {
+                ResultUsize::Ok(n) => {
+                    *len = n;
+                    0
+                }
+                ResultUsize::Err(e) => tell(e, values),
+            },
+        },
+    }
+}
+
+// The next state in its two lent places.
+fn keep(next: FrameSplitter, count: &mut usize, skipping: &mut u8)
+    ensures { λ r. ⌜ (now (count .exit) ≡ next .count) × (now (skipping .exit) ≡ flagOf (next .skipping)) ⌝ }
+{
+    *count = next.count;
+    *skipping = flag(next.skipping);
+}
+
+#[no_mangle]
+pub extern "C" fn mvd_feed(
+    count: &mut usize,
+    skipping: &mut u8,
+    hold: &mut [u8],
+    chunk: &[u8],
+    fed: &mut [u64; 5],
+    values: &mut [u64; 3],
+) -> u64
+    ensures reply { λ k. ⌜ Passed (leftBy (feedRule (stateOf (now (count .entry)) (now (skipping .entry))) (now (hold .entry)) (now (chunk .entry))))
+        (now (count .entry), now (skipping .entry), now (fed .entry)) (now (values .entry))
+        k (now (count .exit), now (skipping .exit), now (fed .exit)) (now (values .exit)) ⌝ }
+    ensures bytes { λ k. ⌜ now (hold .exit) ≡ feedRule (stateOf (now (count .entry)) (now (skipping .entry))) (now (hold .entry)) (now (chunk .entry)) .held ⌝ }
+{
+    let state = FrameSplitter {
+        count: *count,
+        skipping: *skipping != 0,
+    };
+    let r = state.feed(hold, chunk);
+    let event = r.event;
+    let next = r.splitter;
+    let taken = r.taken as u64;
+    match event {
+        Event::More => *fed = [0, taken, 0, 0, 0],
+        Event::Frame(p) => {
+            *fed = [
+                1,
+                taken,
+                flag(p.in_hold) as u64,
+                p.start as u64,
+                p.len as u64,
+            ]
+        }
+        Event::Overlong => *fed = [2, taken, 0, 0, 0],
+        Event::Err(e) => return tell(e, values),
+    }
+    keep(next, count, skipping);
+    0
+}

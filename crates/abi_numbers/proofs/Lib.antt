@@ -1,0 +1,2 @@
+-- The laws of a field asked for by C.
+pub mod Message
