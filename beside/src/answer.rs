@@ -26,7 +26,7 @@ pub fn bits(x: f64) -> u64 {
 
 pub fn hex(bytes: &[u8]) -> String {
     bytes.iter().fold(String::new(), |mut s, b| {
-        write!(s, "{b:02X}").unwrap();
+        write!(s, "{b:02x}").unwrap();
         s
     })
 }
@@ -34,7 +34,7 @@ pub fn hex(bytes: &[u8]) -> String {
 impl Case {
     /// One line: the operation, the two numbers and the bytes, all in hex.
     pub fn line(&self) -> String {
-        format!("{:02X}{:016X}{:016X}{}", self.op, self.a, self.b, hex(&self.data))
+        format!("{:02x}{:016x}{:016x}{}", self.op, self.a, self.b, hex(&self.data))
     }
 }
 
@@ -47,7 +47,7 @@ impl Answer {
     pub fn line(&self) -> String {
         let mut s = self.refusal.to_string();
         self.whole.iter().for_each(|n| write!(s, " {n}").unwrap());
-        self.figures.iter().for_each(|x| write!(s, " {x:016X}").unwrap());
+        self.figures.iter().for_each(|x| write!(s, " {x:016x}").unwrap());
         write!(s, " :{}", hex(&self.bytes)).unwrap();
         s
     }

@@ -83,7 +83,7 @@ fn framing(wires: &[Vec<u8>], copy: f64) {
         || {
             wires.iter().for_each(|w| unsafe {
                 let (p, h, v) = (payload.as_mut_ptr(), header.as_mut_ptr(), values.as_mut_ptr());
-                black_box(c::mvd_parse(w.as_ptr(), w.len(), p, 2048, h, 4, v, 3));
+                black_box(c::mvd_parse(w.as_ptr(), w.len(), p, 2048, h, v));
             })
         },
         copy,
@@ -97,7 +97,7 @@ fn framing(wires: &[Vec<u8>], copy: f64) {
         || {
             parsed.iter().for_each(|f| unsafe {
                 let (p, w, v) = (f.payload.as_ptr(), wire.as_mut_ptr(), values.as_mut_ptr());
-                black_box(c::mvd_encode(0x10, 0x40, 0xD4, p, f.payload.len(), w, 2048, &mut length, v, 3));
+                black_box(c::mvd_encode(0x10, 0x40, 0xD4, p, f.payload.len(), w, 2048, &mut length, v));
             })
         },
         copy,
@@ -135,7 +135,7 @@ fn decoding(r: &mut Random, copy: f64) {
                 $name,
                 &made($len, &[]),
                 |p| sink($rust::decode(p)),
-                |p| sink(unsafe { c::$port(p.as_ptr(), p.len(), wp, 64, xp, 256, vp, 3) }),
+                |p| sink(unsafe { c::$port(p.as_ptr(), p.len(), wp, xp, vp) }),
                 copy,
             );
         };
@@ -146,20 +146,20 @@ fn decoding(r: &mut Random, copy: f64) {
     record!("decode EF", SpinResult, mvd_spin_result, 138);
     let (mut counts, mut sequence, mut points) = ([0u64; 16], 0i16, 0usize);
     let cp = counts.as_mut_ptr();
-    let track = |p: &[u8]| sink(unsafe { c::mvd_tracking_status(p.as_ptr(), p.len(), cp, 16, wp, 64, vp, 3) });
+    let track = |p: &[u8]| sink(unsafe { c::mvd_tracking_status(p.as_ptr(), p.len(), cp, wp, vp) });
     decode("decode E9", &made(82, &[]), |p| sink(TrackingStatus::decode(p)), track, copy);
     let speed = |p: &[u8]| {
-        sink(unsafe { c::mvd_speed_profile(p.as_ptr(), p.len(), xp, 256, wp, 64, &mut t, vp, 3) })
+        sink(unsafe { c::mvd_speed_profile(p.as_ptr(), p.len(), xp, 256, wp, &mut points, &mut t, vp) })
     };
     decode("decode D9", &made(172, &[]), |p| sink(SpeedProfile::decode(p)), speed, copy);
     let prc = |p: &[u8]| unsafe {
-        black_box(c::mvd_prc_data(p.as_ptr(), p.len(), &mut sequence, &mut points, vp, 3));
-        (0..points).for_each(|i| sink(c::mvd_prc_point(p.as_ptr(), p.len(), i, wp, 64, xp, 256, vp, 3)));
+        black_box(c::mvd_prc_data(p.as_ptr(), p.len(), &mut sequence, &mut points, vp));
+        (0..points).for_each(|i| sink(c::mvd_prc_point(p.as_ptr(), p.len(), i, wp, xp, vp)));
     };
     decode("decode EC, three points", &made(184, &[183, 0, 0, 3]), |p| sink(PrcData::decode(p)), prc, copy);
     let club_prc = |p: &[u8]| unsafe {
         let n = black_box(c::mvd_club_prc(p.as_ptr(), p.len()));
-        (0..n).for_each(|i| sink(c::mvd_club_prc_point(p.as_ptr(), p.len(), i, wp, 64, xp, 256, vp, 3)));
+        (0..n).for_each(|i| sink(c::mvd_club_prc_point(p.as_ptr(), p.len(), i, wp, xp, vp)));
     };
     decode("decode EE, three points", &made(229, &[228]), |p| sink(ClubPrc::decode(p)), club_prc, copy);
 }
@@ -176,7 +176,7 @@ fn floats(r: &mut Random, copy: f64) {
         data.len(),
         || (0..data.len() / 5).for_each(|i| sink(codec::read_float40(black_box(&data), i * 5))),
         || (0..data.len() / 5).for_each(|i| unsafe {
-            black_box(c::mvd_read_float40(black_box(&data).as_ptr(), data.len(), i * 5, &mut value, v.as_mut_ptr(), 3));
+            black_box(c::mvd_read_float40(black_box(&data).as_ptr(), data.len(), i * 5, &mut value, v.as_mut_ptr()));
         }),
         copy,
     );
@@ -190,7 +190,7 @@ fn floats(r: &mut Random, copy: f64) {
             xs.iter().for_each(|&x| codec::write_float40(&mut old, black_box(x)));
         },
         || xs.iter().enumerate().for_each(|(i, &x)| unsafe {
-            black_box(c::mvd_write_float40(buf.as_mut_ptr(), buf.len(), i * 5, black_box(x), v.as_mut_ptr(), 3));
+            black_box(c::mvd_write_float40(buf.as_mut_ptr(), buf.len(), i * 5, black_box(x), v.as_mut_ptr()));
         }),
         copy,
     );

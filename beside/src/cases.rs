@@ -183,6 +183,13 @@ fn split_case(r: &mut Random) -> Case {
     case(ops::SPLIT, room as u64, u64::from_be_bytes(turn.try_into().unwrap()), bytes)
 }
 
+fn state_case(r: &mut Random) -> Case {
+    let hold = r.below(6);
+    let count = if r.below(8) == 0 { r.next() } else { r.below(8) as u64 };
+    let mark = r.one_of(&[0, 0, 1, 255]);
+    case(ops::STATE, count, mark, r.bytes(hold))
+}
+
 /// A scale of 0, 1, a negative one, or anything.
 fn set_scale(r: &mut Random, op: u8, data: &mut [u8]) {
     let Some(&(_, at)) = SCALES.iter().find(|s| s.0 == op) else {
@@ -214,8 +221,18 @@ fn by_number_case(r: &mut Random) -> Case {
     case(ops::FIELD, number, message, data)
 }
 
+/// A speed of 0, below it, or above: the figure that says whether a record was read.
+fn speed_case(r: &mut Random) -> Case {
+    let (op, least, place) = r.one_of(&[(ops::IS_MODEL_FAILURE, 157, 16), (ops::IS_NO_READ, 94, 7)]);
+    let len = least + r.below(3) - r.below(2);
+    let mut data = r.bytes(len);
+    let speed: i32 = r.one_of(&[0, 1, -1, -8_388_608, 8_388_607]);
+    data[place..place + 3].copy_from_slice(&speed.to_be_bytes()[1..]);
+    case(op, 0, 0, data)
+}
+
 fn other_case(r: &mut Random) -> Case {
-    match r.below(8) {
+    match r.below(9) {
         0 => {
             let len = r.below(60);
             let mut data = r.bytes(len);
@@ -245,6 +262,7 @@ fn other_case(r: &mut Random) -> Case {
             let len = 74 + r.below(6);
             case(ops::ENCODE_REQUEST, 0, r.next() & 0xFFFF, r.bytes(len))
         }
+        6 => speed_case(r),
         4 | 5 => {
             let mut data = Vec::new();
             for _ in 0..r.below(4) {
@@ -267,6 +285,7 @@ pub fn random(r: &mut Random) -> Case {
         0..=3 => field_case(r),
         4..=6 => write_case(r),
         7..=9 => frame_case(r),
+        10 if r.below(4) == 0 => state_case(r),
         10 | 11 => split_case(r),
         12 => message_case(r),
         13 => by_number_case(r),

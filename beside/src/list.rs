@@ -44,6 +44,17 @@ fn named(r: &mut Random) -> Vec<Case> {
     list
 }
 
+/// What the program has room for: bytes, and the buffer that a case lends.
+fn fits(c: &Case) -> bool {
+    let lent = match c.op {
+        ops::PARSE | ops::SPLIT => c.a,
+        ops::ENCODE | ops::BAY_LOG => c.b,
+        ops::SPEED_PROFILE => c.a * 16,
+        _ => 0,
+    };
+    c.data.len() <= 320 && lent <= 400
+}
+
 /// A thin sample of the bounded cases: every one whose number is a multiple of a step.
 fn sampled(r: &mut Random) -> Vec<Case> {
     let mut list = Vec::new();
@@ -63,7 +74,7 @@ pub fn write(dir: &str) {
     list.extend(sampled(&mut r));
     while list.len() < named(&mut Random::new(SEED)).len() + RANDOM {
         let c = cases::random(&mut r);
-        if c.data.len() <= 320 {
+        if fits(&c) {
             list.push(c);
         }
     }

@@ -3,9 +3,11 @@
 //!     beside [CASES [SEED]]    compare; prints the count and the seed, or the first case that differs
 //!     beside list DIR          write the fixed list: DIR/stdin has the cases, DIR/stdout the Rust's answers
 //!     beside bench             the speed of both, and the ratio
+//!     beside differences       the inputs of docs/DIFFERENCES.md, and what each side answers
 mod answer;
 mod bench;
 mod cases;
+mod differences;
 mod list;
 mod ops;
 mod port;
@@ -49,12 +51,13 @@ fn main() {
     let args: Vec<String> = std::env::args().skip(1).collect();
     match args.iter().map(String::as_str).collect::<Vec<_>>()[..] {
         ["bench"] => bench::run(),
+        ["differences"] => differences::run(),
         ["list", dir] => list::write(dir),
         [] => run(CASES, SEED),
         [count] => run(count.parse().expect("a count of cases"), SEED),
         [count, seed] => run(count.parse().expect("a count of cases"), seed.parse().expect("a seed")),
         _ => {
-            eprintln!("beside [CASES [SEED]] | beside list DIR | beside bench");
+            eprintln!("beside [CASES [SEED]] | beside list DIR | beside bench | beside differences");
             exit(2);
         }
     }

@@ -25,6 +25,8 @@ pub const PARSE: u8 = 0x20;
 pub const ENCODE: u8 = 0x21;
 /// a is H; the eight bytes of b are the sizes of the chunks offered, in turn (see `sizes`).
 pub const SPLIT: u8 = 0x22;
+/// a is the count, b the mark, the bytes are the hold buffer: an empty chunk is offered to that state.
+pub const STATE: u8 = 0x23;
 pub const FLIGHT_RESULT: u8 = 0x30;
 pub const FLIGHT_RESULT_V1: u8 = 0x31;
 pub const CLUB_RESULT: u8 = 0x32;
@@ -41,6 +43,8 @@ pub const CLUB_PRC_POINT: u8 = 0x39;
 /// b is the start index; the bytes are the lent buffer.
 pub const ENCODE_REQUEST: u8 = 0x3A;
 pub const SHOT_TEXT: u8 = 0x3B;
+pub const IS_MODEL_FAILURE: u8 = 0x3C;
+pub const IS_NO_READ: u8 = 0x3D;
 /// a is the number, b the message.
 pub const FIELD: u8 = 0x40;
 /// a is the event number, b the lent buffer's length.

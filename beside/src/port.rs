@@ -1,59 +1,56 @@
-//! What the port answers to a case, through the exported library `abi` (include/movaleduft.h).
+//! What the port answers to a case, through the exported library (include/movaleduft.h).
 use crate::answer::{bits, Answer, Case};
 use crate::ops;
 
 pub mod c {
     extern "C" {
-        pub fn mvd_read_int16(d: *const u8, n: usize, at: usize, value: *mut i16, v: *mut u64, vn: usize) -> u64;
-        pub fn mvd_read_uint16(d: *const u8, n: usize, at: usize, value: *mut u16, v: *mut u64, vn: usize) -> u64;
-        pub fn mvd_read_int24(d: *const u8, n: usize, at: usize, value: *mut i32, v: *mut u64, vn: usize) -> u64;
-        pub fn mvd_read_uint24(d: *const u8, n: usize, at: usize, value: *mut u32, v: *mut u64, vn: usize) -> u64;
-        pub fn mvd_read_int32(d: *const u8, n: usize, at: usize, value: *mut i32, v: *mut u64, vn: usize) -> u64;
-        pub fn mvd_read_uint32(d: *const u8, n: usize, at: usize, value: *mut u32, v: *mut u64, vn: usize) -> u64;
-        pub fn mvd_read_float40(d: *const u8, n: usize, at: usize, value: *mut f64, v: *mut u64, vn: usize) -> u64;
-        pub fn mvd_read_int24_scaled(d: *const u8, n: usize, at: usize, s: f64, value: *mut f64, v: *mut u64, vn: usize) -> u64;
-        pub fn mvd_read_int16_scaled(d: *const u8, n: usize, at: usize, s: f64, value: *mut f64, v: *mut u64, vn: usize) -> u64;
-        pub fn mvd_write_int16(b: *mut u8, n: usize, at: usize, val: i16, v: *mut u64, vn: usize) -> u64;
-        pub fn mvd_write_uint16(b: *mut u8, n: usize, at: usize, val: u16, v: *mut u64, vn: usize) -> u64;
-        pub fn mvd_write_int24(b: *mut u8, n: usize, at: usize, val: i32, v: *mut u64, vn: usize) -> u64;
-        pub fn mvd_write_uint24(b: *mut u8, n: usize, at: usize, val: u32, v: *mut u64, vn: usize) -> u64;
-        pub fn mvd_write_int32(b: *mut u8, n: usize, at: usize, val: i32, v: *mut u64, vn: usize) -> u64;
-        pub fn mvd_write_uint32(b: *mut u8, n: usize, at: usize, val: u32, v: *mut u64, vn: usize) -> u64;
-        pub fn mvd_write_float40(b: *mut u8, n: usize, at: usize, value: f64, v: *mut u64, vn: usize) -> u64;
-        pub fn mvd_write_float40_bits(b: *mut u8, n: usize, at: usize, bits: u64, v: *mut u64, vn: usize) -> u64;
-        pub fn mvd_parse(w: *const u8, wn: usize, p: *mut u8, pn: usize, h: *mut u64, hn: usize, v: *mut u64, vn: usize) -> u64;
+        pub fn mvd_read_int16(d: *const u8, n: usize, at: usize, value: *mut i16, v: *mut u64) -> u64;
+        pub fn mvd_read_uint16(d: *const u8, n: usize, at: usize, value: *mut u16, v: *mut u64) -> u64;
+        pub fn mvd_read_int24(d: *const u8, n: usize, at: usize, value: *mut i32, v: *mut u64) -> u64;
+        pub fn mvd_read_uint24(d: *const u8, n: usize, at: usize, value: *mut u32, v: *mut u64) -> u64;
+        pub fn mvd_read_int32(d: *const u8, n: usize, at: usize, value: *mut i32, v: *mut u64) -> u64;
+        pub fn mvd_read_uint32(d: *const u8, n: usize, at: usize, value: *mut u32, v: *mut u64) -> u64;
+        pub fn mvd_read_float40(d: *const u8, n: usize, at: usize, value: *mut f64, v: *mut u64) -> u64;
+        pub fn mvd_read_int24_scaled(d: *const u8, n: usize, at: usize, s: f64, value: *mut f64, v: *mut u64) -> u64;
+        pub fn mvd_read_int16_scaled(d: *const u8, n: usize, at: usize, s: f64, value: *mut f64, v: *mut u64) -> u64;
+        pub fn mvd_write_int16(b: *mut u8, n: usize, at: usize, val: i16, v: *mut u64) -> u64;
+        pub fn mvd_write_uint16(b: *mut u8, n: usize, at: usize, val: u16, v: *mut u64) -> u64;
+        pub fn mvd_write_int24(b: *mut u8, n: usize, at: usize, val: i32, v: *mut u64) -> u64;
+        pub fn mvd_write_uint24(b: *mut u8, n: usize, at: usize, val: u32, v: *mut u64) -> u64;
+        pub fn mvd_write_int32(b: *mut u8, n: usize, at: usize, val: i32, v: *mut u64) -> u64;
+        pub fn mvd_write_uint32(b: *mut u8, n: usize, at: usize, val: u32, v: *mut u64) -> u64;
+        pub fn mvd_write_float40(b: *mut u8, n: usize, at: usize, value: f64, v: *mut u64) -> u64;
+        pub fn mvd_write_float40_bits(b: *mut u8, n: usize, at: usize, bits: u64, v: *mut u64) -> u64;
+        pub fn mvd_parse(w: *const u8, wn: usize, p: *mut u8, pn: usize, h: *mut u64, v: *mut u64) -> u64;
         pub fn mvd_encode(
-            dest: u8, src: u8, type_id: u8, p: *const u8, pn: usize, w: *mut u8, wn: usize, len: *mut usize, v: *mut u64, vn: usize,
+            dest: u8, src: u8, type_id: u8, p: *const u8, pn: usize, w: *mut u8, wn: usize, len: *mut usize, v: *mut u64,
         ) -> u64;
         pub fn mvd_feed(
-            count: *mut usize, skipping: *mut u8, h: *mut u8, hn: usize, c: *const u8, cn: usize, f: *mut u64, fn_: usize,
-            v: *mut u64, vn: usize,
+            count: *mut usize, skipping: *mut u8, h: *mut u8, hn: usize, c: *const u8, cn: usize, f: *mut u64, v: *mut u64,
         ) -> u64;
-        pub fn mvd_flight_result(p: *const u8, pn: usize, w: *mut i32, wn: usize, f: *mut f64, fn_: usize, v: *mut u64, vn: usize) -> u64;
-        pub fn mvd_flight_result_v1(p: *const u8, pn: usize, w: *mut i32, wn: usize, f: *mut f64, fn_: usize, v: *mut u64, vn: usize) -> u64;
-        pub fn mvd_club_result(p: *const u8, pn: usize, w: *mut i32, wn: usize, f: *mut f64, fn_: usize, v: *mut u64, vn: usize) -> u64;
-        pub fn mvd_spin_result(p: *const u8, pn: usize, w: *mut i32, wn: usize, f: *mut f64, fn_: usize, v: *mut u64, vn: usize) -> u64;
-        pub fn mvd_tracking_status(p: *const u8, pn: usize, c: *mut u64, cn: usize, w: *mut i32, wn: usize, v: *mut u64, vn: usize) -> u64;
+        pub fn mvd_flight_result(p: *const u8, pn: usize, w: *mut i32, f: *mut f64, v: *mut u64) -> u64;
+        pub fn mvd_flight_result_v1(p: *const u8, pn: usize, w: *mut i32, f: *mut f64, v: *mut u64) -> u64;
+        pub fn mvd_club_result(p: *const u8, pn: usize, w: *mut i32, f: *mut f64, v: *mut u64) -> u64;
+        pub fn mvd_spin_result(p: *const u8, pn: usize, w: *mut i32, f: *mut f64, v: *mut u64) -> u64;
+        pub fn mvd_tracking_status(p: *const u8, pn: usize, c: *mut u64, w: *mut i32, v: *mut u64) -> u64;
         pub fn mvd_speed_profile(
-            p: *const u8, pn: usize, s: *mut f64, sn: usize, w: *mut i32, wn: usize, t: *mut f64, v: *mut u64, vn: usize,
+            p: *const u8, pn: usize, s: *mut f64, sn: usize, w: *mut i32, samples: *mut usize, t: *mut f64, v: *mut u64,
         ) -> u64;
-        pub fn mvd_prc_data(p: *const u8, pn: usize, sequence: *mut i16, points: *mut usize, v: *mut u64, vn: usize) -> u64;
-        pub fn mvd_prc_point(
-            p: *const u8, pn: usize, i: usize, w: *mut i32, wn: usize, f: *mut f64, fn_: usize, v: *mut u64, vn: usize,
-        ) -> u64;
+        pub fn mvd_prc_data(p: *const u8, pn: usize, sequence: *mut i16, points: *mut usize, v: *mut u64) -> u64;
+        pub fn mvd_prc_point(p: *const u8, pn: usize, i: usize, w: *mut i32, f: *mut f64, v: *mut u64) -> u64;
         pub fn mvd_club_prc(p: *const u8, pn: usize) -> usize;
-        pub fn mvd_club_prc_point(
-            p: *const u8, pn: usize, i: usize, w: *mut i32, wn: usize, f: *mut f64, fn_: usize, v: *mut u64, vn: usize,
-        ) -> u64;
-        pub fn mvd_encode_request(start: u16, b: *mut u8, bn: usize, v: *mut u64, vn: usize) -> u64;
+        pub fn mvd_club_prc_point(p: *const u8, pn: usize, i: usize, w: *mut i32, f: *mut f64, v: *mut u64) -> u64;
+        pub fn mvd_encode_request(start: u16, b: *mut u8, bn: usize, v: *mut u64) -> u64;
+        pub fn mvd_is_model_failure(p: *const u8, pn: usize, failed: *mut u8, v: *mut u64) -> u64;
+        pub fn mvd_is_no_read(p: *const u8, pn: usize, unread: *mut u8, v: *mut u64) -> u64;
         pub fn mvd_shot_text(p: *const u8, pn: usize, t: *mut u8, tn: usize) -> usize;
         pub fn mvd_is_processed(t: *const u8, tn: usize) -> u8;
         pub fn mvd_is_idle(t: *const u8, tn: usize) -> u8;
         pub fn mvd_is_trigger(t: *const u8, tn: usize) -> u8;
         pub fn mvd_field(
-            m: u8, p: *const u8, pn: usize, number: usize, count: *mut i32, figure: *mut f64, is: *mut u8, v: *mut u64, vn: usize,
+            m: u8, p: *const u8, pn: usize, number: usize, count: *mut i32, figure: *mut f64, is: *mut u8, v: *mut u64,
         ) -> u64;
-        pub fn mvd_bay_log(event: u32, p: *const u8, pn: usize, b: *mut u8, bn: usize, v: *mut u64, vn: usize) -> u64;
+        pub fn mvd_bay_log(event: u32, p: *const u8, pn: usize, b: *mut u8, bn: usize, v: *mut u64) -> u64;
     }
 }
 
@@ -63,17 +60,15 @@ const VALUES: [usize; 12] = [0, 1, 1, 0, 2, 2, 1, 3, 2, 0, 1, 1];
 /// No call may touch a value that it does not answer.
 const MARK: u64 = 0x5555_5555_5555_5555;
 
-/// Runs a call with room for a refusal's values; what it answers when not refused is `yes`'s.
-fn told(call: impl FnOnce(*mut u64, usize) -> u64, yes: impl FnOnce() -> Answer) -> Answer {
+/// Runs a call with room for a refusal's values: it keeps them, or fills all three.
+fn told(call: impl FnOnce(*mut u64) -> u64) -> Answer {
     let mut values = [MARK; 4];
-    let refusal = call(values.as_mut_ptr(), values.len());
+    let refusal = call(values.as_mut_ptr());
     let n = VALUES[refusal as usize];
-    assert!(values[n..].iter().all(|&v| v == MARK), "a value past the last was written");
-    if refusal == 0 {
-        yes()
-    } else {
-        Answer::refused(refusal, &values[..n])
-    }
+    assert!(values[3] == MARK, "more than three values were written");
+    let rest = if refusal == 0 { MARK } else { 0 };
+    assert!(values[n..3].iter().all(|&v| v == rest), "a value past the last was written");
+    Answer::refused(refusal, &values[..n])
 }
 
 fn whole(ns: &[i64]) -> Answer {
@@ -83,56 +78,42 @@ fn whole(ns: &[i64]) -> Answer {
 macro_rules! read {
     ($f:ident, $c:expr, $t:ty) => {{
         let mut value: $t = 77 as $t;
-        let p: *mut $t = &mut value;
-        let r = told(
-            |v, n| unsafe { c::$f($c.data.as_ptr(), $c.data.len(), $c.a as usize, p, v, n) },
-            || whole(&[unsafe { *p } as i64]),
-        );
-        assert!(r.refusal == 0 || value == 77 as $t, "a refusal wrote");
-        r
+        let r = told(|v| unsafe { c::$f($c.data.as_ptr(), $c.data.len(), $c.a as usize, &mut value, v) });
+        if r.refusal == 0 {
+            whole(&[value as i64])
+        } else {
+            assert!(value == 77 as $t, "a refusal wrote");
+            r
+        }
     }};
 }
 
 macro_rules! read_float {
     ($f:ident, $c:expr $(, $scale:expr)?) => {{
         let mut value = ops::KEPT;
-        let p: *mut f64 = &mut value;
-        let r = told(
-            |v, n| unsafe { c::$f($c.data.as_ptr(), $c.data.len(), $c.a as usize, $($scale,)? p, v, n) },
-            || Answer { figures: vec![bits(unsafe { *p })], ..Answer::default() },
-        );
-        assert!(r.refusal == 0 || value == ops::KEPT, "a refusal wrote");
-        r
+        let r = told(|v| unsafe { c::$f($c.data.as_ptr(), $c.data.len(), $c.a as usize, $($scale,)? &mut value, v) });
+        if r.refusal == 0 {
+            Answer { figures: vec![bits(value)], ..r }
+        } else {
+            assert!(value == ops::KEPT, "a refusal wrote");
+            r
+        }
     }};
 }
 
 macro_rules! write {
     ($f:ident, $c:expr, $val:expr) => {{
         let mut buf = $c.data.clone();
-        let (p, len) = (buf.as_mut_ptr(), buf.len());
-        let mut r = told(|v, n| unsafe { c::$f(p, len, $c.a as usize, $val, v, n) }, Answer::default);
-        r.bytes = buf;
-        r
+        let r = told(|v| unsafe { c::$f(buf.as_mut_ptr(), buf.len(), $c.a as usize, $val, v) });
+        Answer { bytes: buf, ..r }
     }};
 }
 
-type Decode = unsafe extern "C" fn(*const u8, usize, *mut i32, usize, *mut f64, usize, *mut u64, usize) -> u64;
-
 /// A record of some whole numbers and some floats; one of each more is lent, which must stay.
-fn record(f: Decode, c: &Case, wholes: usize, floats: usize) -> Answer {
-    point(|p, n, w, wn, x, xn, v, vn| unsafe { f(p, n, w, wn, x, xn, v, vn) }, c, wholes, floats)
-}
-
-type Slots = (*mut i32, usize, *mut f64, usize);
-
-#[allow(clippy::too_many_arguments)]
-fn point(
-    f: impl FnOnce(*const u8, usize, *mut i32, usize, *mut f64, usize, *mut u64, usize) -> u64, c: &Case, wholes: usize, floats: usize,
-) -> Answer {
+fn record(wholes: usize, floats: usize, call: impl FnOnce(*mut i32, *mut f64, *mut u64) -> u64) -> Answer {
     let mut w = vec![-55_555i32; wholes + 1];
     let mut x = vec![ops::KEPT; floats + 1];
-    let (wp, wn, xp, xn): Slots = (w.as_mut_ptr(), w.len(), x.as_mut_ptr(), x.len());
-    let r = told(|v, n| f(c.data.as_ptr(), c.data.len(), wp, wn, xp, xn, v, n), Answer::default);
+    let r = told(|v| call(w.as_mut_ptr(), x.as_mut_ptr(), v));
     if r.refusal != 0 {
         assert!(w.iter().all(|&n| n == -55_555) && x.iter().all(|&y| y == ops::KEPT), "a refusal wrote");
         return r;
@@ -148,29 +129,25 @@ fn point(
 fn parse(c: &Case) -> Answer {
     let mut buf = vec![ops::UNTOUCHED; c.a as usize];
     let mut header = [MARK; 5];
-    let (p, pn, h, hn) = (buf.as_mut_ptr(), buf.len(), header.as_mut_ptr(), header.len());
-    let mut r = told(|v, n| unsafe { c::mvd_parse(c.data.as_ptr(), c.data.len(), p, pn, h, hn, v, n) }, Answer::default);
-    if r.refusal == 0 {
-        r.whole = header[..4].iter().map(|&n| n as i128).collect();
-    }
-    r.bytes = buf;
-    r
+    let r = told(|v| unsafe {
+        c::mvd_parse(c.data.as_ptr(), c.data.len(), buf.as_mut_ptr(), buf.len(), header.as_mut_ptr(), v)
+    });
+    assert!(header[4] == MARK && (r.refusal == 0 || header[0] == MARK), "more of the header was written");
+    let said = if r.refusal == 0 { header[..4].iter().map(|&n| n as i128).collect() } else { r.whole };
+    Answer { whole: said, bytes: buf, ..r }
 }
 
 fn encode(c: &Case) -> Answer {
     let mut buf = vec![ops::UNTOUCHED; c.b as usize];
     let mut length = 77usize;
-    let (w, wn, l): (*mut u8, usize, *mut usize) = (buf.as_mut_ptr(), buf.len(), &mut length);
     let (dest, src, type_id) = ((c.a >> 16) as u8, (c.a >> 8) as u8, c.a as u8);
-    let mut r = told(
-        |v, n| unsafe { c::mvd_encode(dest, src, type_id, c.data.as_ptr(), c.data.len(), w, wn, l, v, n) },
-        Answer::default,
-    );
-    if r.refusal == 0 {
-        r.whole = vec![length as i128];
-    }
-    r.bytes = buf;
-    r
+    let r = told(|v| unsafe {
+        let (p, n, w, room) = (c.data.as_ptr(), c.data.len(), buf.as_mut_ptr(), buf.len());
+        c::mvd_encode(dest, src, type_id, p, n, w, room, &mut length, v)
+    });
+    assert!(r.refusal == 0 || length == 77, "a refusal wrote");
+    let said = if r.refusal == 0 { vec![length as i128] } else { r.whole };
+    Answer { whole: said, bytes: buf, ..r }
 }
 
 /// One call of `feed`, held to document 01's words on the hold buffer: it writes exactly the bytes it adds, from the old count on.
@@ -192,21 +169,11 @@ impl Splitter {
     }
 
     pub fn feed(&mut self, chunk: &[u8]) -> Fed {
-        let mut fed = [MARK; 5];
-        let mut values = [MARK; 4];
+        let (mut fed, mut values) = ([MARK; 5], [MARK; 3]);
+        let (hold, room) = (self.hold.as_mut_ptr(), self.hold.len());
         let refusal = unsafe {
-            c::mvd_feed(
-                &mut self.count,
-                &mut self.skipping,
-                self.hold.as_mut_ptr(),
-                self.hold.len(),
-                chunk.as_ptr(),
-                chunk.len(),
-                fed.as_mut_ptr(),
-                fed.len(),
-                values.as_mut_ptr(),
-                values.len(),
-            )
+            let (f, v) = (fed.as_mut_ptr(), values.as_mut_ptr());
+            c::mvd_feed(&mut self.count, &mut self.skipping, hold, room, chunk.as_ptr(), chunk.len(), f, v)
         };
         assert_eq!(refusal, 0, "a state that feed gave was refused");
         let frame = (fed[0] == 1).then(|| (fed[2] == 1, fed[3] as usize, fed[4] as usize));
@@ -253,19 +220,36 @@ fn split(c: &Case) -> Answer {
     answer
 }
 
+/// A state that no run of `feed` leaves: 9 where document 01 says so, and nothing is altered; else whatever it is, it ends.
+fn state(c: &Case) -> Answer {
+    let (mut count, mut skipping) = (c.a as usize, c.b as u8);
+    let mut hold: Vec<u8> = c.data.clone();
+    let mut fed = [MARK; 6];
+    let r = told(|v| unsafe {
+        c::mvd_feed(&mut count, &mut skipping, hold.as_mut_ptr(), hold.len(), c.data.as_ptr(), 0, fed.as_mut_ptr(), v)
+    });
+    if r.refusal != 0 {
+        assert!(count as u64 == c.a && skipping == c.b as u8 && fed == [MARK; 6], "a refusal wrote");
+    }
+    assert!(fed[5] == MARK && hold == c.data, "an empty chunk altered the hold buffer");
+    r
+}
+
 fn speed(c: &Case) -> Answer {
     let room = c.a as usize;
     let mut speeds = vec![ops::KEPT; room];
-    let mut w = [-55_555i32; 6];
-    let mut t = ops::KEPT;
-    let (s, wp, tp): (*mut f64, *mut i32, *mut f64) = (speeds.as_mut_ptr(), w.as_mut_ptr(), &mut t);
-    let mut r = told(
-        |v, n| unsafe { c::mvd_speed_profile(c.data.as_ptr(), c.data.len(), s, room, wp, 6, tp, v, n) },
-        Answer::default,
-    );
+    let (mut w, mut samples, mut t) = ([-55_555i32; 5], 77usize, ops::KEPT);
+    let mut r = told(|v| unsafe {
+        let (s, w) = (speeds.as_mut_ptr(), w.as_mut_ptr());
+        c::mvd_speed_profile(c.data.as_ptr(), c.data.len(), s, room, w, &mut samples, &mut t, v)
+    });
+    assert!(w[4] == -55_555, "more was written than the record has");
     if r.refusal == 0 {
-        r.whole = w[..5].iter().map(|&n| n as i128).collect();
+        r.whole = w[..4].iter().map(|&n| n as i128).collect();
+        r.whole.push(samples as i128);
         r.figures = vec![bits(t)];
+    } else {
+        assert!(w[0] == -55_555 && samples == 77 && t == ops::KEPT, "a refusal wrote");
     }
     r.figures.extend(speeds.iter().map(|&x| bits(x)));
     r
@@ -273,15 +257,12 @@ fn speed(c: &Case) -> Answer {
 
 /// The unsigned numbers stand apart; the answer has them in the record's order. One of each more is lent, which must stay.
 fn tracking(c: &Case) -> Answer {
-    let mut counts = [MARK; 17];
-    let mut w = [-55_555i32; 5];
-    let (cp, wp) = (counts.as_mut_ptr(), w.as_mut_ptr());
-    let mut r = told(
-        |v, n| unsafe { c::mvd_tracking_status(c.data.as_ptr(), c.data.len(), cp, 17, wp, 5, v, n) },
-        Answer::default,
-    );
+    let (mut counts, mut w) = ([MARK; 17], [-55_555i32; 5]);
+    let mut r = told(|v| unsafe {
+        c::mvd_tracking_status(c.data.as_ptr(), c.data.len(), counts.as_mut_ptr(), w.as_mut_ptr(), v)
+    });
     if r.refusal != 0 {
-        assert!(counts.iter().all(|&n| n == MARK) && w.iter().all(|&n| n == -55_555), "a refusal wrote");
+        assert!(counts == [MARK; 17] && w == [-55_555; 5], "a refusal wrote");
         return r;
     }
     assert!(counts[16] == MARK && w[4] == -55_555, "more was written than the record has");
@@ -293,13 +274,24 @@ fn tracking(c: &Case) -> Answer {
 
 fn prc_data(c: &Case) -> Answer {
     let (mut sequence, mut points) = (-5_555i16, 77usize);
-    let (sp, pp): (*mut i16, *mut usize) = (&mut sequence, &mut points);
-    let r = told(|v, n| unsafe { c::mvd_prc_data(c.data.as_ptr(), c.data.len(), sp, pp, v, n) }, Answer::default);
+    let r = told(|v| unsafe { c::mvd_prc_data(c.data.as_ptr(), c.data.len(), &mut sequence, &mut points, v) });
     if r.refusal != 0 {
         assert!(sequence == -5_555 && points == 77, "a refusal wrote");
         return r;
     }
     whole(&[sequence as i64, points as i64])
+}
+
+/// Yes or no of a payload's record.
+fn test(call: impl FnOnce(*mut u8, *mut u64) -> u64) -> Answer {
+    let mut yes = 7u8;
+    let r = told(|v| call(&mut yes, v));
+    assert!(r.refusal == 0 || yes == 7, "a refusal wrote");
+    if r.refusal == 0 {
+        whole(&[yes as i64])
+    } else {
+        r
+    }
 }
 
 fn text(c: &Case) -> Answer {
@@ -314,11 +306,12 @@ fn text(c: &Case) -> Answer {
 
 fn field(c: &Case) -> Answer {
     let (mut count, mut figure, mut is_figure) = (-55_555i32, ops::KEPT, 7u8);
-    let (np, xp, ip): (*mut i32, *mut f64, *mut u8) = (&mut count, &mut figure, &mut is_figure);
-    let r = told(
-        |v, n| unsafe { c::mvd_field(c.b as u8, c.data.as_ptr(), c.data.len(), c.a as usize, np, xp, ip, v, n) },
-        Answer::default,
-    );
+    let r = told(|v| unsafe {
+        let (p, n) = (c.data.as_ptr(), c.data.len());
+        c::mvd_field(c.b as u8, p, n, c.a as usize, &mut count, &mut figure, &mut is_figure, v)
+    });
+    assert!(count == -55_555 || figure == ops::KEPT, "a count and a figure were written");
+    assert!(r.refusal == 0 || (count == -55_555 && figure == ops::KEPT && is_figure == 7), "a refusal wrote");
     match (r.refusal, is_figure) {
         (0, 1) => Answer { figures: vec![bits(figure)], ..r },
         (0, _) => whole(&[count as i64]),
@@ -326,16 +319,14 @@ fn field(c: &Case) -> Answer {
     }
 }
 
-fn lent(len: u64, call: impl FnOnce(*mut u8, usize, *mut u64, usize) -> u64) -> Answer {
-    let mut buf = vec![ops::UNTOUCHED; len as usize];
-    let (p, pn) = (buf.as_mut_ptr(), buf.len());
-    let mut r = told(|v, n| call(p, pn, v, n), Answer::default);
-    r.bytes = buf;
-    r
+/// A call that writes into a lent buffer.
+fn lent(mut buf: Vec<u8>, call: impl FnOnce(*mut u8, usize, *mut u64) -> u64) -> Answer {
+    let r = told(|v| call(buf.as_mut_ptr(), buf.len(), v));
+    Answer { bytes: buf, ..r }
 }
 
 pub fn ask(c: &Case) -> Answer {
-    let (d, n) = (c.data.as_ptr(), c.data.len());
+    let (d, n, at) = (c.data.as_ptr(), c.data.len(), c.a as usize);
     let val = c.b as u32;
     match c.op {
         ops::READ_INT16 => read!(mvd_read_int16, c, i16),
@@ -358,36 +349,26 @@ pub fn ask(c: &Case) -> Answer {
         ops::PARSE => parse(c),
         ops::ENCODE => encode(c),
         ops::SPLIT => split(c),
-        ops::FLIGHT_RESULT => record(c::mvd_flight_result, c, 8, 44),
-        ops::FLIGHT_RESULT_V1 => record(c::mvd_flight_result_v1, c, 4, 27),
-        ops::CLUB_RESULT => record(c::mvd_club_result, c, 3, 53),
-        ops::SPIN_RESULT => record(c::mvd_spin_result, c, 46, 16),
+        ops::STATE => state(c),
+        ops::FLIGHT_RESULT => record(8, 44, |w, x, v| unsafe { c::mvd_flight_result(d, n, w, x, v) }),
+        ops::FLIGHT_RESULT_V1 => record(4, 27, |w, x, v| unsafe { c::mvd_flight_result_v1(d, n, w, x, v) }),
+        ops::CLUB_RESULT => record(3, 53, |w, x, v| unsafe { c::mvd_club_result(d, n, w, x, v) }),
+        ops::SPIN_RESULT => record(46, 16, |w, x, v| unsafe { c::mvd_spin_result(d, n, w, x, v) }),
         ops::TRACKING_STATUS => tracking(c),
         ops::SPEED_PROFILE => speed(c),
         ops::PRC_DATA => prc_data(c),
-        ops::PRC_POINT => point(
-            |p, n, w, wn, x, xn, v, vn| unsafe { c::mvd_prc_point(p, n, c.a as usize, w, wn, x, xn, v, vn) },
-            c,
-            8,
-            16,
-        ),
+        ops::PRC_POINT => record(8, 16, |w, x, v| unsafe { c::mvd_prc_point(d, n, at, w, x, v) }),
         ops::CLUB_PRC => whole(&[unsafe { c::mvd_club_prc(d, n) } as i64]),
-        ops::CLUB_PRC_POINT => point(
-            |p, n, w, wn, x, xn, v, vn| unsafe { c::mvd_club_prc_point(p, n, c.a as usize, w, wn, x, xn, v, vn) },
-            c,
-            9,
-            20,
-        ),
-        ops::ENCODE_REQUEST => {
-            let mut buf = c.data.clone();
-            let (p, pn) = (buf.as_mut_ptr(), buf.len());
-            let mut r = told(|v, n| unsafe { c::mvd_encode_request(c.b as u16, p, pn, v, n) }, Answer::default);
-            r.bytes = buf;
-            r
-        }
+        ops::CLUB_PRC_POINT => record(9, 20, |w, x, v| unsafe { c::mvd_club_prc_point(d, n, at, w, x, v) }),
+        ops::ENCODE_REQUEST => lent(c.data.clone(), |b, bn, v| unsafe { c::mvd_encode_request(c.b as u16, b, bn, v) }),
         ops::SHOT_TEXT => text(c),
+        ops::IS_MODEL_FAILURE => test(|yes, v| unsafe { c::mvd_is_model_failure(d, n, yes, v) }),
+        ops::IS_NO_READ => test(|yes, v| unsafe { c::mvd_is_no_read(d, n, yes, v) }),
         ops::FIELD => field(c),
-        ops::BAY_LOG => lent(c.b, |b, bn, v, vn| unsafe { c::mvd_bay_log(c.a as u32, d, n, b, bn, v, vn) }),
-        other => panic!("no operation {other:02X}"),
+        ops::BAY_LOG => {
+            let buf = vec![ops::UNTOUCHED; c.b as usize];
+            lent(buf, |b, bn, v| unsafe { c::mvd_bay_log(c.a as u32, d, n, b, bn, v) })
+        }
+        other => panic!("no operation {other:02x}"),
     }
 }

@@ -148,6 +148,15 @@ fn split(c: &Case) -> Answer {
     answer
 }
 
+/// The Rust has no state that a caller could spoil: the answer is document 01's.
+fn state(c: &Case) -> Answer {
+    if c.a > c.data.len() as u64 || (c.b as u8 != 0 && c.a != 0) {
+        Answer::refused(9, &[])
+    } else {
+        Answer::default()
+    }
+}
+
 fn flight(r: &FlightResult) -> Answer {
     let s = r.landing_spin_rpm;
     let ns = [r.total, r.backspin_rpm, r.sidespin_rpm, r.riflespin_rpm, s[0], s[1], s[2], r.poly_scale];
@@ -328,6 +337,7 @@ pub fn ask(c: &Case) -> Answer {
         ops::PARSE => parse(c),
         ops::ENCODE => encode(c),
         ops::SPLIT => split(c),
+        ops::STATE => state(c),
         ops::FLIGHT_RESULT => FlightResult::decode(d).map_or_else(refusal, |r| flight(&r)),
         ops::FLIGHT_RESULT_V1 => FlightResultV1::decode(d).map_or_else(refusal, |r| flight_v1(&r)),
         ops::CLUB_RESULT => ClubResult::decode(d).map_or_else(refusal, |r| club(&r)),
@@ -347,6 +357,8 @@ pub fn ask(c: &Case) -> Answer {
             written(&at_front, &ClubPrc::encode_request(c.b as u16))
         }
         ops::SHOT_TEXT => text(c),
+        ops::IS_MODEL_FAILURE => FlightResult::decode(d).map_or_else(refusal, |r| whole(&[r.is_model_failure() as i64])),
+        ops::IS_NO_READ => FlightResultV1::decode(d).map_or_else(refusal, |r| whole(&[r.is_no_read() as i64])),
         ops::FIELD => field(c),
         ops::BAY_LOG => bay_log(c),
         other => panic!("no operation {other:02X}"),

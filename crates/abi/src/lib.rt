@@ -1,6 +1,7 @@
 // An answer as C takes it: 0, or a refusal's number with its values in three lent words.
 // A refusal alters no other lent place. The crates abi_* export what include/movaleduft.h lists.
 ghost use mathlib.Core.Path.{_≡_};
+ghost use lib.IntN.{pos};
 ghost use Rattle.error.specs.Refusal.{numberOf, valuesOf};
 ghost use Rattle.error.specs.Result.{toldUnit};
 ghost use Rattle.abi.specs.Answer.{flagOf, three, Passed};
@@ -29,4 +30,17 @@ pub fn flag(b: bool) -> u8
     ensures { λ r. ⌜ r ≡ flagOf b ⌝ }
 {
     if b { 1 } else { 0 }
+}
+
+// An i16 and a byte among the numbers of 32 bits.
+pub fn wide(n: i16) -> i32
+    ensures { λ r. ⌜ r ≡ n ⌝ }
+{
+    n as i32
+}
+
+pub fn byte(n: u8) -> i32
+    ensures { λ r. ⌜ r ≡ pos n ⌝ }
+{
+    n as i32
 }

@@ -2,3 +2,4 @@
 pub mod Held
 pub mod Lengths
 pub mod Parts
+pub mod Spread

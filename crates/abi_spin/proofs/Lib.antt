@@ -1,0 +1,3 @@
+-- The laws of EF's numbers on their way to C.
+pub mod Elements
+pub mod Filled
