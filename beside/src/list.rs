@@ -6,7 +6,7 @@ use crate::{ops, rust};
 use std::fs;
 
 const SEED: u64 = 1;
-const RANDOM: usize = 1_600;
+const CASES: usize = 2_000;
 
 fn case(op: u8, a: u64, b: u64, data: &[u8]) -> Case {
     Case { op, a, b, data: data.to_vec() }
@@ -44,6 +44,58 @@ fn named(r: &mut Random) -> Vec<Case> {
     list
 }
 
+/// Each field kind at both ends of its range, with its bytes short by one, exact, and at a place.
+fn edges() -> Vec<Case> {
+    let mut list = Vec::new();
+    for (op, width) in [(1, 2), (2, 2), (3, 3), (4, 3), (5, 4), (6, 4), (7, 5), (8, 3), (9, 2)] {
+        let scale = 1000f64.to_bits();
+        for first in [0x00, 0x7F, 0x80, 0xFF] {
+            for rest in [0x00, 0xFF] {
+                let mut data = vec![rest; width];
+                data[0] = first;
+                list.push(case(op, 0, scale, &data));
+            }
+        }
+        list.extend([0, 1, 2, u64::MAX - width as u64, u64::MAX].map(|at| case(op, at, scale, &vec![0x5A; width + 1])));
+        list.push(case(op, 0, scale, &vec![0x5A; width - 1]));
+    }
+    for (op, width) in [(0x11, 2), (0x12, 2), (0x13, 3), (0x14, 3), (0x15, 4), (0x16, 4), (0x17, 5), (0x18, 5)] {
+        for value in [0, 1, u64::MAX, 0x7FFF, 0x8000, 0x7F_FFFF, 0x80_0000, 0x7FFF_FFFF, 0x8000_0000, 0x7FF0_0000_0000_0000] {
+            list.push(case(op, 1, value, &vec![ops::UNTOUCHED; width + 2]));
+        }
+        list.extend([2, u64::MAX - 1].map(|at| case(op, at, 1, &vec![ops::UNTOUCHED; width + 1])));
+    }
+    list
+}
+
+/// The limits that document 01 adds: room, H, an index, a number, a state.
+fn limits(r: &mut Random) -> Vec<Case> {
+    let wire = [0xF0, 0x40, 0x10, 0x01, 0x07, 0x08, 0x00, 0x60, 0xF1];
+    let mut list: Vec<Case> = [1, 2, 3].map(|room| case(ops::PARSE, room, 0, &wire)).to_vec();
+    list.extend([8, 9, 10].map(|room| case(ops::ENCODE, 0x40_1001, room, &[7, 8])));
+    list.extend([0x41_1001, 0x40_1101, 0x41_1101].map(|fields| case(ops::ENCODE, fields, 20, &[])));
+    list.extend([0, 8, 9, 10].map(|room| case(ops::SPLIT, room, 0x0203_0405_0001_0902, &[&wire[..], &wire[..4], &wire].concat())));
+    for (count, mark) in [(0, 0), (2, 0), (3, 0), (0, 1), (1, 1), (u64::MAX, 0)] {
+        list.push(case(ops::STATE, count, mark, &[0; 2]));
+    }
+    for (message, least, numbers) in [(0xD4, 157, 52), (0xE8, 94, 31), (0xED, 167, 55)] {
+        list.extend([0, numbers - 1, numbers, u64::MAX].map(|n| case(ops::FIELD, n, message, &r.bytes(least))));
+        list.push(case(ops::FIELD, 0, message, &r.bytes(least - 1)));
+    }
+    for len in [156, 157] {
+        list.extend([31, 32, 33].map(|room| case(ops::BAY_LOG, 0xDEAD_BEEF, room, &r.bytes(len))));
+    }
+    list.extend([76, 77, 78].map(|room| case(ops::ENCODE_REQUEST, 0, 0xBEEF, &vec![ops::UNTOUCHED; room])));
+    list.extend([0, 1, 2, 3].map(|room| case(ops::SPEED_PROFILE, room, 0, &r.bytes(16))));
+    let mut points = r.bytes(229);
+    points[0] = 228;
+    list.extend([0, 2, 3].map(|index| case(ops::CLUB_PRC_POINT, index, 0, &points)));
+    points[0] = 183;
+    points[3] = 3;
+    list.extend([0, 2, 3].map(|index| case(ops::PRC_POINT, index, 0, &points)));
+    list
+}
+
 /// What the program has room for: bytes, and the buffer that a case lends.
 fn fits(c: &Case) -> bool {
     let lent = match c.op {
@@ -71,8 +123,10 @@ fn sampled(r: &mut Random) -> Vec<Case> {
 pub fn write(dir: &str) {
     let mut r = Random::new(SEED);
     let mut list = named(&mut r);
+    list.extend(edges());
+    list.extend(limits(&mut r));
     list.extend(sampled(&mut r));
-    while list.len() < named(&mut Random::new(SEED)).len() + RANDOM {
+    while list.len() < CASES {
         let c = cases::random(&mut r);
         if fits(&c) {
             list.push(c);

@@ -204,6 +204,7 @@ fn spin(r: &SpinResult) -> Answer {
     record(&ns, &xs)
 }
 
+/// The unsigned numbers first, as the exported call gives them.
 fn tracking(r: &TrackingStatus) -> Answer {
     let m = r.track_measure;
     whole(&[
@@ -222,11 +223,11 @@ fn tracking(r: &TrackingStatus) -> Answer {
         r.radar_measurement as i64,
         r.trigger_flags as i64,
         r.event_counter as i64,
+        r.track_measure4 as i64,
         r.radar_baseline as i64,
         m[0] as i64,
         m[1] as i64,
         m[2] as i64,
-        r.track_measure4 as i64,
     ])
 }
 

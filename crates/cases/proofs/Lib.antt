@@ -1,0 +1,2 @@
+-- The law of a part from the front.
+pub mod Fronts

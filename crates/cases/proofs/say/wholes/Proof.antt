@@ -1,0 +1,51 @@
+-- `wholes` is safe and ends: the measure is what is left of the list.
+use Prim.Native.Nat.{_-_}
+use native.Mathlib.Omega.{arith}
+use lib.ListN.{length}
+use Rattle.cases.proofs.say.wholes.Statement.{statement}
+use Rattle.cases.proofs.say.wholes.Tie as tie
+
+abbrev Inv-loop : tie.InvT-loop
+Inv-loop ns i₀ i = Unit
+
+abbrev μ-loop : tie.MeasureT-loop
+μ-loop ns i₀ i = length ns - i
+
+loop-holds : tie.Need-loop-holds Inv-loop μ-loop
+loop-holds c = tt
+
+mul-whole : tie.Need-mul-whole Inv-loop μ-loop
+mul-whole c = omega arith
+
+shared-slice-read-whole : tie.Need-shared-slice-read-whole Inv-loop μ-loop
+shared-slice-read-whole c = omega arith
+
+whole-requires : tie.Need-whole-requires Inv-loop μ-loop
+whole-requires c κs = tt
+
+add-i : tie.Need-add-i Inv-loop μ-loop
+add-i c = omega arith
+
+loop-less : tie.Need-loop-less Inv-loop μ-loop
+loop-less c = omega arith
+
+loop-again : tie.Need-loop-again Inv-loop μ-loop
+loop-again c = tt
+
+returns : tie.Need-returns Inv-loop μ-loop
+returns c = tt
+
+pub wholes-spec : {M : Type 1} → statement M
+wholes-spec =
+    tie.close
+    (tie.spec
+    Inv-loop
+    μ-loop
+    loop-holds
+    mul-whole
+    shared-slice-read-whole
+    whole-requires
+    add-i
+    loop-less
+    loop-again
+    returns)
