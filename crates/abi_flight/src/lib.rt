@@ -2,13 +2,11 @@
 // What it tells, and every lent place, is that decoder's rule; what stands where is specs/Records.
 ghost use mathlib.Core.Path.{_≡_};
 ghost use Rattle.flight.specs.Decoding.{decodeRule};
-ghost use Rattle.flight.specs.Failure.{modelFailure, noRead};
 ghost use Rattle.flight.specs.FlightResultFields.{flightResult};
 ghost use Rattle.flight.specs.FlightResultV1Fields.{flightResultV1};
 ghost use Rattle.flight.specs.ClubResultFields.{clubResult};
-ghost use Rattle.abi.specs.Answer.{flagOf, both, shown, Passed};
+ghost use Rattle.abi.specs.Answer.{both, shown, Passed};
 ghost use Rattle.abi_flight.specs.Records.{flightWhole, flightFigures, flightV1Whole, flightV1Figures, clubWhole, clubFigures};
-use abi::flag;
 use abi::tell;
 use error::ResultUnit;
 use flight::ClubResult;
@@ -79,46 +77,6 @@ pub extern "C" fn mvd_club_result(
         ResultUnit::Ok => {
             *whole = club_whole(r);
             *figures = club_figures(r);
-            0
-        }
-        ResultUnit::Err(e) => tell(e, values),
-    }
-}
-
-// `is_model_failure` of a payload's record: 1 for yes.
-#[no_mangle]
-pub extern "C" fn mvd_is_model_failure(
-    payload: &[u8],
-    failed: &mut u8,
-    values: &mut [u64; 3],
-) -> u64
-    ensures { λ k. ⌜ Passed (shown (λ r. flagOf (modelFailure r)) (decodeRule Message.FlightResult flightResult (now (payload .entry))))
-        (now (failed .entry)) (now (values .entry)) k (now (failed .exit)) (now (values .exit)) ⌝ }
-{
-    let d = FlightResult::decode(payload);
-    let result = d.result;
-    let r = d.record;
-    match result {
-        ResultUnit::Ok => {
-            *failed = flag(r.is_model_failure());
-            0
-        }
-        ResultUnit::Err(e) => tell(e, values),
-    }
-}
-
-// `is_no_read` of a payload's record: 1 for yes.
-#[no_mangle]
-pub extern "C" fn mvd_is_no_read(payload: &[u8], unread: &mut u8, values: &mut [u64; 3]) -> u64
-    ensures { λ k. ⌜ Passed (shown (λ r. flagOf (noRead r)) (decodeRule Message.FlightResultV1 flightResultV1 (now (payload .entry))))
-        (now (unread .entry)) (now (values .entry)) k (now (unread .exit)) (now (values .exit)) ⌝ }
-{
-    let d = FlightResultV1::decode(payload);
-    let result = d.result;
-    let r = d.record;
-    match result {
-        ResultUnit::Ok => {
-            *unread = flag(r.is_no_read());
             0
         }
         ResultUnit::Err(e) => tell(e, values),

@@ -173,14 +173,14 @@ fn text_into(payload: &[u8], room: &mut [u8]) {
 pub(crate) fn is_model_failure(case: &[u8]) {
     let mut failed = 0u8;
     let mut values = [0u64; 3];
-    let k = abi_flight::mvd_is_model_failure(bytes(case), &mut failed, &mut values);
+    let k = abi_numbers::mvd_is_model_failure(bytes(case), &mut failed, &mut values);
     say::count(k, &values, failed as u64);
 }
 
 pub(crate) fn is_no_read(case: &[u8]) {
     let mut unread = 0u8;
     let mut values = [0u64; 3];
-    let k = abi_flight::mvd_is_no_read(bytes(case), &mut unread, &mut values);
+    let k = abi_numbers::mvd_is_no_read(bytes(case), &mut unread, &mut values);
     say::count(k, &values, unread as u64);
 }
 

@@ -5,8 +5,8 @@ use Rattle.abi.specs.Answer.{flagOf}
 use Rattle.abi.proofs.Passing.{shows, hides}
 use Rattle.flight.specs.declared.flight_result.FlightResult.{FlightResult}
 use Rattle.flight.specs.Failure.{modelFailure}
-use Rattle.abi_flight.proofs.mvd_is_model_failure.Statement.{statement}
-use Rattle.abi_flight.proofs.mvd_is_model_failure.Tie as tie
+use Rattle.abi_numbers.proofs.mvd_is_model_failure.Statement.{statement}
+use Rattle.abi_numbers.proofs.mvd_is_model_failure.Tie as tie
 
 returns : tie.Need-returns
 returns c =

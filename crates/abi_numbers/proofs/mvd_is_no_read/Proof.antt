@@ -5,8 +5,8 @@ use Rattle.abi.specs.Answer.{flagOf}
 use Rattle.abi.proofs.Passing.{shows, hides}
 use Rattle.flight.specs.declared.flight_result_v1.FlightResultV1.{FlightResultV1}
 use Rattle.flight.specs.Failure.{noRead}
-use Rattle.abi_flight.proofs.mvd_is_no_read.Statement.{statement}
-use Rattle.abi_flight.proofs.mvd_is_no_read.Tie as tie
+use Rattle.abi_numbers.proofs.mvd_is_no_read.Statement.{statement}
+use Rattle.abi_numbers.proofs.mvd_is_no_read.Tie as tie
 
 returns : tie.Need-returns
 returns c =
