@@ -338,7 +338,7 @@ pub fn bounded(r: &mut Random, mut take: impl FnMut(Case)) {
         }
     }
     for header in 0..=255u8 {
-        for len in [0, 3, 4, 63, 64, 65, 124, 184] {
+        for len in (0..=25).chain([63, 64, 65, 76, 77, 78, 124, 153, 184]) {
             let mut data = r.bytes(len);
             if len > 0 {
                 data[0] = header;
@@ -348,6 +348,12 @@ pub fn bounded(r: &mut Random, mut take: impl FnMut(Case)) {
             take(case(ops::CLUB_PRC, 0, 0, data.clone()));
             take(case(ops::CLUB_PRC_POINT, r.below(4) as u64, 0, data));
         }
+    }
+    for len in 0..=20 {
+        take(case(ops::SHOT_TEXT, 0, 0, r.bytes(len)));
+        take(case(ops::ENCODE_REQUEST, 0, r.next() & 0xFFFF, r.bytes(67 + len)));
+        take(case(ops::BAY_LOG, r.next() & 0xFFFF_FFFF, 22 + len as u64, r.bytes(157)));
+        take(case(ops::BAY_LOG, r.next() & 0xFFFF_FFFF, 40, r.bytes(147 + len)));
     }
     // every field by number
     for (message, least, numbers) in [(0xD4, 157, 52), (0xE8, 94, 31), (0xED, 167, 55)] {
@@ -379,6 +385,34 @@ pub fn bounded(r: &mut Random, mut take: impl FnMut(Case)) {
                 for cuts in [0, 0x0101_0101_0101_0101, 0x0200_0103_0002_0100] {
                     take(case(ops::SPLIT, room, cuts, stream.clone()));
                 }
+            }
+        }
+    }
+}
+
+/// Short inputs, all of them: every INT24 read and written, every wire and every text of up to two bytes, every count, mark
+/// and H up to eight.
+pub fn exhaustive(mut take: impl FnMut(Case)) {
+    for n in 0..1u32 << 24 {
+        let bytes = n.to_be_bytes();
+        for op in [ops::READ_INT24, ops::READ_UINT24] {
+            take(case(op, 0, 0, bytes[1..].to_vec()));
+        }
+        for op in [ops::WRITE_INT24, ops::WRITE_UINT24] {
+            take(case(op, 0, (n as u64) << 8 | n as u64 >> 16, vec![ops::UNTOUCHED; 3]));
+        }
+    }
+    for n in 0..=u16::MAX {
+        let bytes = n.to_be_bytes();
+        for len in [1, 2] {
+            take(case(ops::PARSE, 2, 0, bytes[..len].to_vec()));
+            take(case(ops::SHOT_TEXT, 0, 0, bytes[..len].to_vec()));
+        }
+    }
+    for count in 0..=8 {
+        for mark in 0..=255 {
+            for hold in 0..=8 {
+                take(case(ops::STATE, count, mark, vec![ops::UNTOUCHED; hold]));
             }
         }
     }

@@ -1,6 +1,7 @@
 //! Runs the port beside the Rust: the same cases to both, every value compared, floats by their bits.
 //!
-//!     beside [CASES [SEED]]    compare; prints the count and the seed, or the first case that differs
+//!     beside [CASES [SEED]]    compare: short inputs all, the boundaries, and CASES random ones (10 million);
+//!                              prints the count and the seed, or the first case that differs
 //!     beside list DIR          write the fixed list: DIR/stdin has the cases, DIR/stdout the Rust's answers
 //!     beside bench             the speed of both, and the ratio
 //!     beside differences       the inputs of docs/DIFFERENCES.md, and what each side answers
@@ -32,19 +33,15 @@ fn compare(c: &Case) {
 fn run(count: u64, seed: u64) {
     let mut r = Random::new(seed);
     let mut done = 0u64;
-    cases::bounded(&mut r, |c| {
+    let mut take = |c: Case| {
         compare(&c);
         done += 1;
-    });
-    for c in cases::long(&mut r) {
-        compare(&c);
-        done += 1;
-    }
-    while done < count {
-        compare(&cases::random(&mut r));
-        done += 1;
-    }
-    println!("{done} cases, seed {seed}: every answer of the port is the Rust's");
+    };
+    cases::exhaustive(&mut take);
+    cases::bounded(&mut r, &mut take);
+    cases::long(&mut r).into_iter().for_each(&mut take);
+    (0..count).for_each(|_| take(cases::random(&mut r)));
+    println!("{done} cases, {count} of them random, seed {seed}: every answer of the port is the Rust's");
 }
 
 fn main() {
