@@ -108,7 +108,7 @@ pub(crate) fn prc_data(case: &[u8]) {
     let k = abi_shot::mvd_prc_data(bytes(case), &mut sequence, &mut points, &mut values);
     say::told(k, &values);
     if k == 0 {
-        say::signed(say::widened(sequence));
+        say::signed(abi::wide(sequence));
         say::whole(points as u64);
     }
     say::bytes(b"");

@@ -45,10 +45,6 @@ pub(crate) fn signed(n: i32) {
     }
 }
 
-pub(crate) fn widened(n: i16) -> i32 {
-    n as i32
-}
-
 // The 32 bits of a number, as INT32 puts them: a cast would ask that it is not negative.
 fn bits_of(n: i32) -> u32 {
     let mut word = [0u8; 4];
@@ -124,7 +120,7 @@ pub(crate) fn bytes(bytes: &[u8]) {
 // ---- whole lines
 
 pub(crate) fn small(k: u64, values: &[u64; 3], n: i16) {
-    number(k, values, widened(n));
+    number(k, values, abi::wide(n));
 }
 
 pub(crate) fn number(k: u64, values: &[u64; 3], n: i32) {
