@@ -12,7 +12,6 @@ use Rattle.numbers.specs.declared.Message.{Message}
 use Rattle.numbers.specs.declared.Message.the-variants as message
 use Rattle.numbers.specs.Numbers.{shapeOf, countOf, ruleOf}
 use Rattle.numbers.specs.Asked.{Number, whole, shownBy, numberOf, fieldRule}
-use Rattle.numbers.proofs.Row.{row-at}
 use Rattle.flight.specs.declared.flight_result.ResultFlightResult.{ResultFlightResult}
 use Rattle.flight.specs.declared.flight_result_v1.ResultFlightResultV1.{ResultFlightResultV1}
 use Rattle.flight.specs.declared.club_result.ResultClubResult.{ResultClubResult}
@@ -20,6 +19,7 @@ use Rattle.flight.specs.Decoding.{Numbers, numbersOf, decodeRule}
 use Rattle.flight.specs.FlightResultFields.{flightResult, flightResultNumbers, toldFlightResult}
 use Rattle.flight.specs.FlightResultV1Fields.{flightResultV1, flightResultV1Numbers, toldFlightResultV1}
 use Rattle.flight.specs.ClubResultFields.{clubResult, clubResultNumbers, toldClubResult}
+use Rattle.flight.proofs.Row.{row-at}
 
 -- the numbers of a message, each whole or as a figure, by number
 abbrev shown : Message → Numbers → ℕ → Number

@@ -1,11 +1,11 @@
 -- Decoding, decided by the length, and the numbers as they were read: one law for the three messages.
 -- Assumes nothing.
-use mathlib.Core.Path.{_≡_, refl, _∙_, ap}
+use mathlib.Core.Path.{_≡_, _∙_, ap}
 use mathlib.Core.List.{List}
-use Prim.Native.Nat.{ℕ, _<_, _≤_, _^_}
-use lib.IntN.{ℤ, pos}
+use Prim.Native.Nat.{ℕ, _+_, _<_, _≤_, _^_}
+use lib.IntN.{ℤ}
 use lib.Ieee.{Float}
-use lib.ListN.{length, getD}
+use lib.ListN.{length, getD, take, drop}
 use lib.Signed.{mag}
 use mir.Syntax.{w32}
 use mir.Val.{toZ, ofZ, hbits}
@@ -14,10 +14,10 @@ use Rattle.error.specs.Refusal.{yes, refused}
 use Rattle.error.specs.declared.WireError.the-variants.{PayloadTooShort}
 use Rattle.layout.specs.Layout.{answered}
 use Rattle.layout.proofs.Held.{held}
+use Rattle.layout.proofs.Parts.{int-part}
 use Rattle.numbers.specs.declared.Message.{Message}
-use Rattle.numbers.specs.declared.Message.the-variants.{FlightResult, FlightResultV1, ClubResult}
-use Rattle.numbers.specs.Numbers.{shapeOf, wholesOf, scaleOf, scaleRule, float}
-use Rattle.flight.specs.Decoding.{Numbers, zeros, numbersOf, decodeRule}
+use Rattle.numbers.specs.Numbers.{shapeOf, wholeOf, scaleOf, scaleRule, float}
+use Rattle.flight.specs.Decoding.{Numbers, zeros, numbersOf, decodeRule, divided, figureIn}
 
 module _ {A : Type 0} (m : Message) (fill : Numbers → A) (p : List ℕ) {r : A} where
   pub short : length p < shapeOf m .least → r ≡ fill zeros → (refused (PayloadTooShort (shapeOf m .kind) (shapeOf m .least) (length p)), r) ≡ decodeRule m fill p
@@ -28,18 +28,13 @@ module _ {A : Type 0} (m : Message) (fill : Numbers → A) (p : List ℕ) {r : A
   unfolding decodeRule answered
   whole h e = simp (le-ltb (length p) (shapeOf m .least) h) (λ i. (yes tt, e i))
 
--- a number of the list, as a field holds it
-pub same : (zs : List ℤ) (n : ℕ) → mag (getD zs n (pos 0)) < 2 ^ hbits w32 → toZ w32 (ofZ w32 (getD zs n (pos 0))) ≡ getD zs n (pos 0)
-same zs n h = held w32 refl h
+-- the scale, of its number as it was read
+pub scale-is : (m : Message) (p : List ℕ) {z : ℤ} {s : Float} → z ≡ wholeOf m p (shapeOf m .scale) → mag z < 2 ^ hbits w32
+    → s ≡ float (scaleRule m (toZ w32 (ofZ w32 z))) → s ≡ scaleOf m p
+unfolding scaleOf
+scale-is m p z h e = e ∙ ap (λ (y : ℤ). float (scaleRule m y)) (held w32 z h)
 
-scale-at : (m : Message) (p : List ℕ) → float (scaleRule m (getD (wholesOf m p) (shapeOf m .scale) (pos 0))) ≡ scaleOf m p
-unfolding wholesOf scaleOf
-scale-at FlightResult p = refl
-scale-at FlightResultV1 p = refl
-scale-at ClubResult p = refl
-
--- the scale, of the whole numbers as they were read
-pub scale-is : (m : Message) (p : List ℕ) {zs : List ℤ} {s : Float} → zs ≡ wholesOf m p → mag (getD zs (shapeOf m .scale) (pos 0)) < 2 ^ hbits w32
-    → s ≡ float (scaleRule m (toZ w32 (ofZ w32 (getD zs (shapeOf m .scale) (pos 0))))) → s ≡ scaleOf m p
-scale-is m p {zs} z h e =
-    e ∙ ap (λ (y : ℤ). float (scaleRule m y)) (same zs (shapeOf m .scale) h ∙ ap (λ (l : List ℤ). getD l (shapeOf m .scale) (pos 0)) z) ∙ scale-at m p
+-- a figure of a part is the whole's, further on
+pub figure-part : (p : List ℕ) (n at : ℕ) (by : List ℕ) (s : Float) (j k : ℕ) (r : Float) → j + 3 ≤ n
+    → r ≡ figureIn (take n (drop at p)) by s j k → r ≡ figureIn p by s (at + j) k
+figure-part p n at by s j k r h e = e ∙ ap (divided (getD by k 0) s) (int-part p n at 3 j h)

@@ -1,4 +1,5 @@
 -- The laws of the decoders.
+pub mod Row
 pub mod Decided
 pub mod ByNumber
 pub mod One

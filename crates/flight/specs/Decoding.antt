@@ -8,7 +8,7 @@ use lib.ListN.{length, getD}
 use lib.IntN.{ℤ, pos}
 use lib.Ieee.{Float, fin}
 use Rattle.error.specs.Refusal.{Told}
-use Rattle.integer.specs.Fields.{scaledBy}
+use Rattle.integer.specs.Fields.{intAt, scaledBy}
 use Rattle.layout.specs.Layout.{answered, row}
 use Rattle.numbers.specs.declared.Message.{Message}
 use Rattle.numbers.specs.declared.Message.the-variants.{FlightResult, FlightResultV1, ClubResult}
@@ -37,15 +37,15 @@ unfoldable pub decodeRule : {A : Type 0} → Message → (Numbers → A) → Lis
 decodeRule m fill p =
     (answered (shapeOf m .kind) (shapeOf m .least) p, fill (cond (ltb (length p) (shapeOf m .least)) zeros (numbersOf m p)))
 
--- ---- from whole numbers and divisors in lists, with a scale
+-- ---- from a payload, a list of divisors and a scale
 
 -- z divided by an entry of the list of divisors
 abbrev pub divided : ℕ → Float → ℤ → Float
 divided d s z = scaledBy (entryOf d s) z
 
--- number n by its own entry, where the message's entries start at `first`
-abbrev pub figureIn : List ℤ → List ℕ → ℕ → Float → ℕ → Float
-figureIn zs by first s n = divided (getD by (first + n) 0) s (getD zs n (pos 0))
+-- the INT24 at a place, by entry k
+abbrev pub figureIn : List ℕ → List ℕ → Float → ℕ → ℕ → Float
+figureIn p by s at k = divided (getD by k 0) s (intAt 3 p at)
 
 -- the entry of a number: the 36 coefficients of ED have one
 abbrev pub entryAt : Message → ℕ → ℕ
@@ -53,10 +53,10 @@ entryAt FlightResult n = 0 + n
 entryAt FlightResultV1 n = 52 + n
 entryAt ClubResult n = 83 + cond (to 16 51 n) 16 n
 
-abbrev pub numbersIn : Message → ℕ → List ℤ → List ℕ → Float → Numbers
-numbersIn m b zs by s =
+abbrev pub numbersIn : Message → List ℕ → List ℕ → Float → Numbers
+numbersIn m p by s =
     record {
-      byte = λ at. b;
-      whole = λ n. getD zs n (pos 0);
-      figure = λ n. divided (getD by (entryAt m n) 0) s (getD zs n (pos 0));
+      byte = λ at. getD p at 0;
+      whole = wholeOf m p;
+      figure = λ n. divided (getD by (entryAt m n) 0) s (wholeOf m p n);
     }

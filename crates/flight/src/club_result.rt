@@ -1,6 +1,8 @@
 // ClubResult (type ED): decoded whole, or refused with every number of the record zero.
 // Each field is the number of its name in specs/ClubResultFields.
 ghost use mathlib.Core.Path.{_≡_};
+ghost use Prim.Native.Nat.{_≤_};
+ghost use lib.ListN.{length};
 ghost use Rattle.flight.specs.Decoding.{decodeRule, numbersIn, zeros};
 ghost use Rattle.flight.specs.ClubResultFields.{clubResult, toldClubResult};
 use crate::figures::figure_at;
@@ -8,11 +10,11 @@ use crate::figures::figures36;
 use error::ResultUnit;
 use error::WireError;
 use integer::byte_at;
+use integer::int24_at;
 use numbers::DIVISORS;
 use numbers::ED;
 use numbers::Message;
 use numbers::scale;
-use numbers::wholes;
 
 // Club head measurements. Appears 2x per shot (duplicate). Type 0xED.
 pub struct ClubResult {
@@ -84,40 +86,40 @@ impl ClubResult {
             };
         }
         let by = DIVISORS;
-        let z = wholes(Message::ClubResult, payload);
-        let s = scale(Message::ClubResult, z[15]);
+        let s = scale(Message::ClubResult, int24_at(payload, 47));
         ResultClubResult {
             result: ResultUnit::Ok,
-            record: ClubResult::of(byte_at(payload, 1), &z, &by, s),
+            record: ClubResult::of(payload, &by, s),
         }
     }
 
-    // The record of these whole numbers, by these divisors and this scale.
-    fn of(num_club_prc_points: u8, z: &[i32; 55], by: &[u32; 138], s: f64) -> ClubResult
-        ensures { λ r. ⌜ r ≡ clubResult (numbersIn Message.ClubResult «num_club_prc_points» (now (z .entry)) (now (by .entry)) s) ⌝ }
+    // The record of a payload that is long enough, by these divisors and this scale.
+    fn of(p: &[u8], by: &[u32; 138], s: f64) -> ClubResult
+        requires { ⌜ 167 ≤ length (now p) ⌝ }
+        ensures { λ r. ⌜ r ≡ clubResult (numbersIn Message.ClubResult (now (p .entry)) (now (by .entry)) s) ⌝ }
     {
         ClubResult {
-            num_club_prc_points,
-            flags: z[0],
-            pre_club_speed: figure_at(z, by, ED, 1, s),
-            post_club_speed: figure_at(z, by, ED, 2, s),
-            strike_direction: figure_at(z, by, ED, 3, s),
-            attack_angle: figure_at(z, by, ED, 4, s),
-            face_angle: figure_at(z, by, ED, 5, s),
-            dynamic_loft: figure_at(z, by, ED, 6, s),
-            smash_factor: figure_at(z, by, ED, 7, s),
-            dispersion_correction: figure_at(z, by, ED, 8, s),
-            swing_plane_horizontal: figure_at(z, by, ED, 9, s),
-            swing_plane_vertical: figure_at(z, by, ED, 10, s),
-            club_azimuth: figure_at(z, by, ED, 11, s),
-            club_elevation: figure_at(z, by, ED, 12, s),
-            club_offset: figure_at(z, by, ED, 13, s),
-            club_height: figure_at(z, by, ED, 14, s),
-            poly_scale: z[15],
-            poly_coeffs: figures36(z, 16, by[ED + 16], s),
-            pre_impact_time: figure_at(z, by, ED, 52, s),
-            post_impact_time: figure_at(z, by, ED, 53, s),
-            club_to_ball_time: figure_at(z, by, ED, 54, s),
+            num_club_prc_points: byte_at(p, 1),
+            flags: int24_at(p, 2),
+            pre_club_speed: figure_at(p, 5, by, ED + 1, s),
+            post_club_speed: figure_at(p, 8, by, ED + 2, s),
+            strike_direction: figure_at(p, 11, by, ED + 3, s),
+            attack_angle: figure_at(p, 14, by, ED + 4, s),
+            face_angle: figure_at(p, 17, by, ED + 5, s),
+            dynamic_loft: figure_at(p, 20, by, ED + 6, s),
+            smash_factor: figure_at(p, 23, by, ED + 7, s),
+            dispersion_correction: figure_at(p, 26, by, ED + 8, s),
+            swing_plane_horizontal: figure_at(p, 29, by, ED + 9, s),
+            swing_plane_vertical: figure_at(p, 32, by, ED + 10, s),
+            club_azimuth: figure_at(p, 35, by, ED + 11, s),
+            club_elevation: figure_at(p, 38, by, ED + 12, s),
+            club_offset: figure_at(p, 41, by, ED + 13, s),
+            club_height: figure_at(p, 44, by, ED + 14, s),
+            poly_scale: int24_at(p, 47),
+            poly_coeffs: figures36(p, 50, by[ED + 16], s),
+            pre_impact_time: figure_at(p, 158, by, ED + 52, s),
+            post_impact_time: figure_at(p, 161, by, ED + 53, s),
+            club_to_ball_time: figure_at(p, 164, by, ED + 54, s),
         }
     }
 

@@ -1,6 +1,8 @@
 // FlightResult (type D4): decoded whole, or refused with every number of the record zero.
 // Each field is the number of its name in specs/FlightResultFields.
 ghost use mathlib.Core.Path.{_≡_};
+ghost use Prim.Native.Nat.{_≤_};
+ghost use lib.ListN.{length};
 ghost use Rattle.flight.specs.Decoding.{decodeRule, numbersIn, zeros};
 ghost use Rattle.flight.specs.FlightResultFields.{flightResult, toldFlightResult};
 ghost use Rattle.flight.specs.Failure.{modelFailure};
@@ -10,11 +12,11 @@ use crate::figures::figures3;
 use crate::figures::figures5;
 use error::ResultUnit;
 use error::WireError;
+use integer::int24_at;
 use numbers::D4;
 use numbers::DIVISORS;
 use numbers::Message;
 use numbers::scale;
-use numbers::wholes;
 
 // Primary ball flight result. 1 per shot. Type 0xD4.
 //
@@ -117,49 +119,49 @@ impl FlightResult {
             };
         }
         let by = DIVISORS;
-        let z = wholes(Message::FlightResult, payload);
-        let s = scale(Message::FlightResult, z[36]);
+        let s = scale(Message::FlightResult, int24_at(payload, 109));
         ResultFlightResult {
             result: ResultUnit::Ok,
-            record: FlightResult::of(&z, &by, s),
+            record: FlightResult::of(payload, &by, s),
         }
     }
 
-    // The record of these whole numbers, by these divisors and this scale.
-    fn of(z: &[i32; 55], by: &[u32; 138], s: f64) -> FlightResult
-        ensures { λ r. ⌜ r ≡ flightResult (numbersIn Message.FlightResult 0 (now (z .entry)) (now (by .entry)) s) ⌝ }
+    // The record of a payload that is long enough, by these divisors and this scale.
+    fn of(p: &[u8], by: &[u32; 138], s: f64) -> FlightResult
+        requires { ⌜ 157 ≤ length (now p) ⌝ }
+        ensures { λ r. ⌜ r ≡ flightResult (numbersIn Message.FlightResult (now (p .entry)) (now (by .entry)) s) ⌝ }
     {
         FlightResult {
-            total: z[0],
-            track_time: figure_at(z, by, D4, 1, s),
-            start_position: figures3(z, by, D4, 2, s),
-            launch_speed: figure_at(z, by, D4, 5, s),
-            launch_azimuth: figure_at(z, by, D4, 6, s),
-            launch_elevation: figure_at(z, by, D4, 7, s),
-            carry_distance: figure_at(z, by, D4, 8, s),
-            flight_time: figure_at(z, by, D4, 9, s),
-            max_height: figure_at(z, by, D4, 10, s),
-            landing_position: figures3(z, by, D4, 11, s),
-            backspin_rpm: z[14],
-            sidespin_rpm: z[15],
-            riflespin_rpm: z[16],
-            landing_spin_rpm: [z[17], z[18], z[19]],
-            landing_velocity: figures3(z, by, D4, 20, s),
-            total_distance: figure_at(z, by, D4, 23, s),
-            roll_distance: figure_at(z, by, D4, 24, s),
-            final_position: figures3(z, by, D4, 25, s),
-            clubhead_speed: figure_at(z, by, D4, 28, s),
-            club_strike_direction: figure_at(z, by, D4, 29, s),
-            club_attack_angle: figure_at(z, by, D4, 30, s),
-            clubhead_speed_post: figure_at(z, by, D4, 31, s),
-            club_swing_plane_tilt: figure_at(z, by, D4, 32, s),
-            club_swing_plane_rotation: figure_at(z, by, D4, 33, s),
-            club_effective_loft: figure_at(z, by, D4, 34, s),
-            club_face_angle: figure_at(z, by, D4, 35, s),
-            poly_scale: z[36],
-            poly_x: figures5(z, by, D4, 37, s),
-            poly_y: figures5(z, by, D4, 42, s),
-            poly_z: figures5(z, by, D4, 47, s),
+            total: int24_at(p, 1),
+            track_time: figure_at(p, 4, by, D4 + 1, s),
+            start_position: figures3(p, 7, by, D4 + 2, s),
+            launch_speed: figure_at(p, 16, by, D4 + 5, s),
+            launch_azimuth: figure_at(p, 19, by, D4 + 6, s),
+            launch_elevation: figure_at(p, 22, by, D4 + 7, s),
+            carry_distance: figure_at(p, 25, by, D4 + 8, s),
+            flight_time: figure_at(p, 28, by, D4 + 9, s),
+            max_height: figure_at(p, 31, by, D4 + 10, s),
+            landing_position: figures3(p, 34, by, D4 + 11, s),
+            backspin_rpm: int24_at(p, 43),
+            sidespin_rpm: int24_at(p, 46),
+            riflespin_rpm: int24_at(p, 49),
+            landing_spin_rpm: [int24_at(p, 52), int24_at(p, 55), int24_at(p, 58)],
+            landing_velocity: figures3(p, 61, by, D4 + 20, s),
+            total_distance: figure_at(p, 70, by, D4 + 23, s),
+            roll_distance: figure_at(p, 73, by, D4 + 24, s),
+            final_position: figures3(p, 76, by, D4 + 25, s),
+            clubhead_speed: figure_at(p, 85, by, D4 + 28, s),
+            club_strike_direction: figure_at(p, 88, by, D4 + 29, s),
+            club_attack_angle: figure_at(p, 91, by, D4 + 30, s),
+            clubhead_speed_post: figure_at(p, 94, by, D4 + 31, s),
+            club_swing_plane_tilt: figure_at(p, 97, by, D4 + 32, s),
+            club_swing_plane_rotation: figure_at(p, 100, by, D4 + 33, s),
+            club_effective_loft: figure_at(p, 103, by, D4 + 34, s),
+            club_face_angle: figure_at(p, 106, by, D4 + 35, s),
+            poly_scale: int24_at(p, 109),
+            poly_x: figures5(p, 112, by, D4 + 37, s),
+            poly_y: figures5(p, 127, by, D4 + 42, s),
+            poly_z: figures5(p, 142, by, D4 + 47, s),
         }
     }
 

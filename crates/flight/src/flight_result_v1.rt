@@ -1,6 +1,8 @@
 // FlightResultV1 (type E8): decoded whole, or refused with every number of the record zero.
 // Each field is the number of its name in specs/FlightResultV1Fields.
 ghost use mathlib.Core.Path.{_≡_};
+ghost use Prim.Native.Nat.{_≤_};
+ghost use lib.ListN.{length};
 ghost use Rattle.flight.specs.Decoding.{decodeRule, numbersIn, zeros};
 ghost use Rattle.flight.specs.FlightResultV1Fields.{flightResultV1, toldFlightResultV1};
 ghost use Rattle.flight.specs.Failure.{noRead};
@@ -9,11 +11,11 @@ use crate::figures::figure_at;
 use crate::figures::figures5;
 use error::ResultUnit;
 use error::WireError;
+use integer::int24_at;
 use numbers::DIVISORS;
 use numbers::E8;
 use numbers::Message;
 use numbers::scale;
-use numbers::wholes;
 
 // Early/partial flight result. 1 per shot, sent before D4. Type 0xE8.
 pub struct FlightResultV1 {
@@ -88,38 +90,38 @@ impl FlightResultV1 {
             };
         }
         let by = DIVISORS;
-        let z = wholes(Message::FlightResultV1, payload);
-        let s = scale(Message::FlightResultV1, z[15]);
+        let s = scale(Message::FlightResultV1, int24_at(payload, 46));
         ResultFlightResultV1 {
             result: ResultUnit::Ok,
-            record: FlightResultV1::of(&z, &by, s),
+            record: FlightResultV1::of(payload, &by, s),
         }
     }
 
-    // The record of these whole numbers, by these divisors and this scale.
-    fn of(z: &[i32; 55], by: &[u32; 138], s: f64) -> FlightResultV1
-        ensures { λ r. ⌜ r ≡ flightResultV1 (numbersIn Message.FlightResultV1 0 (now (z .entry)) (now (by .entry)) s) ⌝ }
+    // The record of a payload that is long enough, by these divisors and this scale.
+    fn of(p: &[u8], by: &[u32; 138], s: f64) -> FlightResultV1
+        requires { ⌜ 94 ≤ length (now p) ⌝ }
+        ensures { λ r. ⌜ r ≡ flightResultV1 (numbersIn Message.FlightResultV1 (now (p .entry)) (now (by .entry)) s) ⌝ }
     {
         FlightResultV1 {
-            total: z[0],
-            club_velocity: figure_at(z, by, E8, 1, s),
-            ball_velocity: figure_at(z, by, E8, 2, s),
-            flight_time: figure_at(z, by, E8, 3, s),
-            distance: figure_at(z, by, E8, 4, s),
-            height: figure_at(z, by, E8, 5, s),
-            lateral: figure_at(z, by, E8, 6, s),
-            elevation: figure_at(z, by, E8, 7, s),
-            azimuth: figure_at(z, by, E8, 8, s),
-            tracked_time: figure_at(z, by, E8, 9, s),
-            drag: figure_at(z, by, E8, 10, s),
-            backspin_rpm: z[11],
-            sidespin_rpm: z[12],
-            acceleration: figure_at(z, by, E8, 13, s),
-            club_strike_direction: figure_at(z, by, E8, 14, s),
-            poly_scale: z[15],
-            poly_x: figures5(z, by, E8, 16, s),
-            poly_y: figures5(z, by, E8, 21, s),
-            poly_z: figures5(z, by, E8, 26, s),
+            total: int24_at(p, 1),
+            club_velocity: figure_at(p, 4, by, E8 + 1, s),
+            ball_velocity: figure_at(p, 7, by, E8 + 2, s),
+            flight_time: figure_at(p, 10, by, E8 + 3, s),
+            distance: figure_at(p, 13, by, E8 + 4, s),
+            height: figure_at(p, 16, by, E8 + 5, s),
+            lateral: figure_at(p, 19, by, E8 + 6, s),
+            elevation: figure_at(p, 22, by, E8 + 7, s),
+            azimuth: figure_at(p, 25, by, E8 + 8, s),
+            tracked_time: figure_at(p, 28, by, E8 + 9, s),
+            drag: figure_at(p, 31, by, E8 + 10, s),
+            backspin_rpm: int24_at(p, 34),
+            sidespin_rpm: int24_at(p, 37),
+            acceleration: figure_at(p, 40, by, E8 + 13, s),
+            club_strike_direction: figure_at(p, 43, by, E8 + 14, s),
+            poly_scale: int24_at(p, 46),
+            poly_x: figures5(p, 49, by, E8 + 16, s),
+            poly_y: figures5(p, 64, by, E8 + 21, s),
+            poly_z: figures5(p, 79, by, E8 + 26, s),
         }
     }
 

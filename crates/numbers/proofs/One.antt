@@ -14,7 +14,7 @@ use Rattle.integer.specs.Fields.{scaledBy}
 use Rattle.numbers.specs.declared.Message.{Message}
 use Rattle.numbers.specs.declared.Field.{Field}
 use Rattle.numbers.specs.declared.Field.the-variants.{Count, Figure, PayloadTooShort, NoField}
-use Rattle.numbers.specs.Numbers.{scaleRule, float, entryOf, wholesOf}
+use Rattle.numbers.specs.Numbers.{scaleRule, float, entryOf}
 use Rattle.numbers.specs.Asked.{Number, whole, figure, toldField, fieldRule}
 
 back : Told Number → Field
@@ -37,6 +37,3 @@ one-scale m z p q = p ∙ sym q
 
 pub one-figure : (z : ℤ) (d : ℕ) (x : Float) {r s : Float} → r ≡ scaledBy (entryOf d x) z → s ≡ scaledBy (entryOf d x) z → r ≡ s
 one-figure z d x p q = p ∙ sym q
-
-pub one-wholes : (m : Message) (b : List ℕ) {r s : List ℤ} → r ≡ wholesOf m b → s ≡ wholesOf m b → r ≡ s
-one-wholes m b p q = p ∙ sym q

@@ -3,11 +3,10 @@
 use Prim.Native.Nat.{ℕ, _+_, _*_}
 use mathlib.Core.Bool.{Bool, cond, _||_, _&&_}
 use mathlib.Core.List.{List}
-use lib.Dec.{eqb, leb, ltb}
+use lib.Dec.{eqb, leb}
 use lib.IntN.{ℤ, pos, negsuc}
 use lib.Ieee.{Float, binary64, ofInt}
 use Rattle.integer.specs.Fields.{intAt, scaledBy}
-use Rattle.layout.specs.Layout.{row}
 use Rattle.numbers.specs.declared.Message.{Message}
 use Rattle.numbers.specs.declared.Message.the-variants.{FlightResult, FlightResultV1, ClubResult}
 use Rattle.numbers.specs.declared.Shape.{Shape}
@@ -26,10 +25,6 @@ countOf m = shapeOf m .count
 -- number n of a message, as it stands
 unfoldable pub wholeOf : Message → List ℕ → ℕ → ℤ
 wholeOf m p n = intAt 3 p (shapeOf m .base + 3 * n)
-
--- all of them by number, and zeros behind the last: 55 in every message
-unfoldable pub wholesOf : Message → List ℕ → List ℤ
-wholesOf m p = row 55 (λ n. cond (ltb n (countOf m)) (wholeOf m p n) (pos 0))
 
 -- ---- what a number is divided by
 

@@ -3,7 +3,7 @@
 ghost use mathlib.Core.Path.{_≡_};
 ghost use Prim.Native.Nat.{_<_};
 ghost use Rattle.integer.specs.Fields.{scaledBy};
-ghost use Rattle.numbers.specs.Numbers.{shapeOf, countOf, wholeOf, wholesOf, ruleOf, codeOf, entryOf, float, scaleRule};
+ghost use Rattle.numbers.specs.Numbers.{shapeOf, countOf, wholeOf, ruleOf, codeOf, entryOf, float, scaleRule};
 ghost use Rattle.numbers.specs.Asked.{toldField, fieldRule};
 
 mod table;
@@ -136,22 +136,6 @@ fn whole(message: Message, payload: &[u8], number: usize) -> i32
     let shape = shape_of(message);
     let base = shape.base;
     int24_at(payload, base + 3 * number)
-}
-
-// The numbers of a message as they stand, by number; zeros behind the last.
-pub fn wholes(message: Message, payload: &[u8]) -> [i32; 55]
-    ensures { λ r. ⌜ r ≡ wholesOf message (now (payload .entry)) ⌝ }
-{
-    let shape = shape_of(message);
-    let base = shape.base;
-    let count = shape.count;
-    let mut z = [0i32; 55];
-    let mut n = 0usize;
-    while n < count {
-        z[n] = int24_at(payload, base + 3 * n);
-        n += 1;
-    }
-    z
 }
 
 // The field of a message by its number.

@@ -1,24 +1,33 @@
--- `figures3` meets its contract: each call's answer in its place.
+-- `figures3` meets its contract: each call's answer in its place, read in the part that is the row.
 use borrow.Author.Needs.{needs}
 use mathlib.Core.Path.{_≡_, _∙_, ap}
 use mathlib.Core.List.{[], _∷_}
-use Prim.Native.Nat.{_+_}
+use Prim.Native.Nat.{_+_, _-_}
 use native.Mathlib.Omega.{arith}
 use Rattle.flight.specs.Decoding.{figureIn}
+use Rattle.flight.proofs.Decided.{figure-part}
 use Rattle.flight.proofs.figures.figures3.Statement.{statement}
 use Rattle.flight.proofs.figures.figures3.Tie as tie
 
 returns : tie.Need-returns
 returns c =
-    let a = c .before .before .before .args in
-    let n : a .n ≡ a .n + 0 = omega arith in
+    let c2 = c in
+    let c1 = c2 .before in
+    let c0 = c1 .before in
+    let a = c0 .before .before .before .args in
+    let p = a .p .now in
+    let part = figure-part p (a .at + 9 - a .at) (a .at) (a .by .now) (a .s) in
+    let same : a .k ≡ a .k + 0 = omega arith in
     λ i.
-    (c .before .before .figure-at .ensures ∙ ap (figureIn (a .z .now) (a .by .now) (a .first) (a .s)) n) i ∷ c .before .figure-at2 .ensures i ∷ c .figure-at3 .ensures i ∷ []
+    (part 0 (a .k) _ (omega arith) (c0 .figure-at .ensures) ∙ ap (figureIn p (a .by .now) (a .s) (a .at + 0)) same) i
+    ∷ part 3 (a .k + 1) _ (omega arith) (c1 .figure-at2 .ensures) i
+    ∷ part 6 (a .k + 2) _ (omega arith) (c2 .figure-at3 .ensures) i
+    ∷ []
 
 pub figures3-spec : {M : Type 1} → statement M
 figures3-spec =
     tie.close
-    (tie.spec (λ c κs. search needs)
+    (tie.spec (λ c. search needs) (λ c. search needs) (λ c. search needs) (λ c. search needs) (λ c κs. search needs)
     (λ c. search needs) (λ c κs. search needs)
     (λ c. search needs) (λ c κs. search needs)
     returns)

@@ -1,17 +1,20 @@
--- `figures36` meets its contract. The loop's invariant: the first k figures stand in their places.
+-- `figures36` meets its contract. The loop's invariant: the first j figures stand in their places.
 -- The measure is what is left of 36.
 use mathlib.Core.Path.{_≡_, _∙_, ap}
 use mathlib.Core.Bool.{false}
 use mathlib.Core.List.{List}
-use Prim.Native.Nat.{ℕ, _+_, _-_, _≤_}
+use Prim.Native.Nat.{ℕ, _+_, _*_, _-_, _≤_}
 use native.Mathlib.Omega.{arith}
-use lib.IntN.{ℤ, pos}
-use lib.ListN.{getD}
+use borrow.Author.Needs.{needs}
+use lib.IntN.{pos}
 use lib.Ieee.{Float, fin, ofBits}
+use mir.Syntax.{w32}
+use Rattle.integer.specs.Fields.{intAt}
 use Rattle.layout.specs.Layout.{row}
-use Rattle.numbers.proofs.Row.{Filled, ending, filled-none, filled-more, filled-is}
+use Rattle.layout.proofs.Held.{held}
+use Rattle.layout.proofs.Parts.{int-part}
 use Rattle.flight.specs.Decoding.{divided}
-use Rattle.flight.proofs.Decided.{same}
+use Rattle.flight.proofs.Row.{Filled, ending, filled-none, filled-more, filled-is}
 use Rattle.flight.proofs.figures.figures36.Statement.{statement}
 use Rattle.flight.proofs.figures.figures36.Tie as tie
 
@@ -19,14 +22,14 @@ abbrev +0 : Float
 +0 = fin false 0 (pos 0)
 
 -- figure j of the row
-abbrev at : List ℤ → ℕ → ℕ → Float → ℕ → Float
-at z n d s j = divided d s (getD z (n + j) (pos 0))
+abbrev placed : List ℕ → ℕ → ℕ → Float → ℕ → Float
+placed p at d s j = divided d s (intAt 3 p (at + 3 * j))
 
 abbrev Inv-loop : tie.InvT-loop
-Inv-loop z n d s xs₀ k₀ xs k = (k ≤ 36) × Filled (at z n d s) +0 36 k xs
+Inv-loop p at d s e xs₀ j₀ xs j = (j ≤ 36) × Filled (placed p at d s) +0 36 j xs
 
 abbrev μ-loop : tie.MeasureT-loop
-μ-loop z n d s xs₀ k₀ xs k = 36 - k
+μ-loop p at d s e xs₀ j₀ xs j = 36 - j
 
 loop-holds : tie.Need-loop-holds Inv-loop μ-loop
 unfolding ofBits
@@ -34,23 +37,26 @@ loop-holds c = (omega arith, filled-none _ +0 36)
 
 loop-again : tie.Need-loop-again Inv-loop μ-loop
 loop-again c =
-    let l = c .before .before .before in
-    let a = l .before .args in (
+    let z = c .before in
+    let l = z .before .before in
+    let a = l .before .before .before .args in
+    let part = int-part (a .p .now) (a .at + 108 - a .at) (a .at) 3 (3 * l .loop .j) (omega arith) in (
       omega arith,
-      filled-more (at (a .z .now) (a .n) (a .d) (a .s)) +0 (l .loop .inv .1) (omega arith)
-          (c .figure .ensures ∙ ap (divided (a .d) (a .s)) (same (a .z .now) (a .n + l .loop .k) (c .before .figure-arg .given))),
+      filled-more (placed (a .p .now) (a .at) (a .d) (a .s)) +0 (l .loop .inv .1) (omega arith)
+          (c .figure .ensures ∙ ap (divided (a .d) (a .s)) (held w32 (z .int24-at .ensures ∙ part) (z .int24-at .ok))),
     )
 
 returns : tie.Need-returns Inv-loop μ-loop
 returns c =
-    let a = c .before .before .args in
-    let k : c .before .loop .k ≡ 36 = omega arith in
+    let a = c .before .before .before .before .args in
+    let j : c .before .loop .j ≡ 36 = omega arith in
     filled-is _ +0 (c .before .loop .inv .1)
-    ∙ ap (λ (k : ℕ). row 36 (ending (at (a .z .now) (a .n) (a .d) (a .s)) +0 k)) k
+    ∙ ap (λ (n : ℕ). row 36 (ending (placed (a .p .now) (a .at) (a .d) (a .s)) +0 n)) j
 
 pub figures36-spec : {M : Type 1} → statement M
 figures36-spec =
     tie.close
     (tie.spec Inv-loop μ-loop
-    loop-holds (λ c. omega arith) (λ c. omega arith) (λ c. omega arith) (λ c κs. omega arith) (λ c. omega arith)
-    (λ c. omega arith) (λ c. omega arith) (λ c. omega arith) loop-again returns)
+    (λ c. search needs) (λ c. search needs) (λ c. search needs) (λ c. search needs)
+    loop-holds (λ c. omega arith) (λ c κs. search needs) (λ c κs. search needs) (λ c. omega arith) (λ c. omega arith)
+    (λ c. omega arith) (λ c. omega arith) loop-again returns)

@@ -1,12 +1,17 @@
 -- `ClubResult::of` meets its contract: each number and figure in the field of its name.
 use borrow.Author.Needs.{needs}
-use Rattle.flight.proofs.Decided.{same}
+use native.Mathlib.Omega.{arith}
+use mir.Syntax.{w32}
+use Rattle.layout.proofs.Held.{held}
+use Rattle.numbers.specs.Numbers.{wholeOf}
 use Rattle.flight.proofs.club_result.ClubResult.of.Statement.{statement}
 use Rattle.flight.proofs.club_result.ClubResult.of.Tie as tie
 
 returns : tie.Need-returns
+unfolding wholeOf
 returns c =
-    let c20 = c in
+    let c21 = c in
+    let c20 = c21 .before in
     let c19 = c20 .before in
     let c18 = c19 .before in
     let c17 = c18 .before in
@@ -27,40 +32,43 @@ returns c =
     let c2 = c3 .before in
     let c1 = c2 .before in
     let c0 = c1 .before in
-    let z = c0 .before .args .z .now in
-    let b = c0 .before .args .num-club-prc-points in
     λ i. record {
-      «num_club_prc_points» = b;
-      flags = same z 0 (c0 .t7 .given) i;
-      «pre_club_speed» = c1 .figure-at .ensures i;
-      «post_club_speed» = c2 .figure-at2 .ensures i;
-      «strike_direction» = c3 .figure-at3 .ensures i;
-      «attack_angle» = c4 .figure-at4 .ensures i;
-      «face_angle» = c5 .figure-at5 .ensures i;
-      «dynamic_loft» = c6 .figure-at6 .ensures i;
-      «smash_factor» = c7 .figure-at7 .ensures i;
-      «dispersion_correction» = c8 .figure-at8 .ensures i;
-      «swing_plane_horizontal» = c9 .figure-at9 .ensures i;
-      «swing_plane_vertical» = c10 .figure-at10 .ensures i;
-      «club_azimuth» = c11 .figure-at11 .ensures i;
-      «club_elevation» = c12 .figure-at12 .ensures i;
-      «club_offset» = c13 .figure-at13 .ensures i;
-      «club_height» = c14 .figure-at14 .ensures i;
-      «poly_scale» = same z 15 (c15 .t24 .given) i;
-      «poly_coeffs» = c17 .figures36 .ensures i;
-      «pre_impact_time» = c18 .figure-at15 .ensures i;
-      «post_impact_time» = c19 .figure-at16 .ensures i;
-      «club_to_ball_time» = c20 .figure-at17 .ensures i;
+      «num_club_prc_points» = c0 .byte-at .ensures i;
+      flags = held w32 (c1 .int24-at .ensures) (c1 .int24-at .ok) i;
+      «pre_club_speed» = c2 .figure-at .ensures i;
+      «post_club_speed» = c3 .figure-at2 .ensures i;
+      «strike_direction» = c4 .figure-at3 .ensures i;
+      «attack_angle» = c5 .figure-at4 .ensures i;
+      «face_angle» = c6 .figure-at5 .ensures i;
+      «dynamic_loft» = c7 .figure-at6 .ensures i;
+      «smash_factor» = c8 .figure-at7 .ensures i;
+      «dispersion_correction» = c9 .figure-at8 .ensures i;
+      «swing_plane_horizontal» = c10 .figure-at9 .ensures i;
+      «swing_plane_vertical» = c11 .figure-at10 .ensures i;
+      «club_azimuth» = c12 .figure-at11 .ensures i;
+      «club_elevation» = c13 .figure-at12 .ensures i;
+      «club_offset» = c14 .figure-at13 .ensures i;
+      «club_height» = c15 .figure-at14 .ensures i;
+      «poly_scale» = held w32 (c16 .int24-at2 .ensures) (c16 .int24-at2 .ok) i;
+      «poly_coeffs» = c18 .figures36 .ensures i;
+      «pre_impact_time» = c19 .figure-at15 .ensures i;
+      «post_impact_time» = c20 .figure-at16 .ensures i;
+      «club_to_ball_time» = c21 .figure-at17 .ensures i;
     }
 
 pub of-spec : {M : Type 1} → statement M
 of-spec =
     tie.close
     (tie.spec
-    (λ c. search needs) (λ c κs. search needs) (λ c κs. search needs) (λ c κs. search needs)
-    (λ c κs. search needs) (λ c κs. search needs) (λ c κs. search needs) (λ c κs. search needs)
-    (λ c κs. search needs) (λ c κs. search needs) (λ c κs. search needs) (λ c κs. search needs)
-    (λ c κs. search needs) (λ c κs. search needs) (λ c κs. search needs) (λ c. search needs)
-    (λ c. search needs) (λ c. search needs) (λ c. search needs) (λ c κs. search needs) (λ c κs. search needs)
-    (λ c κs. search needs) (λ c κs. search needs)
+    (λ c κs. search needs) (λ c κs. search needs) (λ c. search needs) (λ c κs. search needs)
+    (λ c. search needs) (λ c κs. search needs) (λ c. search needs) (λ c κs. search needs) (λ c. search needs)
+    (λ c κs. search needs) (λ c. search needs) (λ c κs. search needs) (λ c. search needs)
+    (λ c κs. search needs) (λ c. search needs) (λ c κs. search needs) (λ c. search needs)
+    (λ c κs. search needs) (λ c. search needs) (λ c κs. search needs) (λ c. search needs)
+    (λ c κs. search needs) (λ c. search needs) (λ c κs. search needs) (λ c. search needs)
+    (λ c κs. search needs) (λ c. search needs) (λ c κs. search needs) (λ c. search needs)
+    (λ c κs. search needs) (λ c κs. search needs) (λ c. search needs) (λ c. search needs) (λ c. search needs)
+    (λ c κs. omega (arith, c .before .before .before .before .before .before .before .before .before .before .before .before .before .before .before .before .before .before .before .pre))
+    (λ c. search needs) (λ c κs. search needs) (λ c. search needs) (λ c κs. search needs) (λ c. search needs)
+    (λ c κs. search needs)
     returns)

@@ -1,11 +1,15 @@
 -- `FlightResult::of` meets its contract: each number and figure in the field of its name.
 use borrow.Author.Needs.{needs}
 use mathlib.Core.List.{[], _∷_}
-use Rattle.flight.proofs.Decided.{same}
+use native.Mathlib.Omega.{arith}
+use mir.Syntax.{w32}
+use Rattle.layout.proofs.Held.{held}
+use Rattle.numbers.specs.Numbers.{wholeOf}
 use Rattle.flight.proofs.flight_result.FlightResult.of.Statement.{statement}
 use Rattle.flight.proofs.flight_result.FlightResult.of.Tie as tie
 
 returns : tie.Need-returns
+unfolding wholeOf
 returns c =
     let c31 = c in
     let c30 = c31 .before in
@@ -39,9 +43,8 @@ returns c =
     let c2 = c3 .before in
     let c1 = c2 .before in
     let c0 = c1 .before in
-    let z = c0 .before .args .z .now in
     λ i. record {
-      total = same z 0 (c0 .t6 .given) i;
+      total = held w32 (c0 .int24-at .ensures) (c0 .int24-at .ok) i;
       «track_time» = c1 .figure-at .ensures i;
       «start_position» = c2 .figures3 .ensures i;
       «launch_speed» = c3 .figure-at2 .ensures i;
@@ -51,10 +54,10 @@ returns c =
       «flight_time» = c7 .figure-at6 .ensures i;
       «max_height» = c8 .figure-at7 .ensures i;
       «landing_position» = c9 .figures32 .ensures i;
-      «backspin_rpm» = same z 14 (c10 .t18 .given) i;
-      «sidespin_rpm» = same z 15 (c11 .t21 .given) i;
-      «riflespin_rpm» = same z 16 (c12 .t24 .given) i;
-      «landing_spin_rpm» = same z 17 (c13 .t27 .given) i ∷ same z 18 (c14 .t30 .given) i ∷ same z 19 (c15 .t33 .given) i ∷ [];
+      «backspin_rpm» = held w32 (c10 .int24-at2 .ensures) (c10 .int24-at2 .ok) i;
+      «sidespin_rpm» = held w32 (c11 .int24-at3 .ensures) (c11 .int24-at3 .ok) i;
+      «riflespin_rpm» = held w32 (c12 .int24-at4 .ensures) (c12 .int24-at4 .ok) i;
+      «landing_spin_rpm» = held w32 (c13 .int24-at5 .ensures) (c13 .int24-at5 .ok) i ∷ held w32 (c14 .int24-at6 .ensures) (c14 .int24-at6 .ok) i ∷ held w32 (c15 .int24-at7 .ensures) (c15 .int24-at7 .ok) i ∷ [];
       «landing_velocity» = c16 .figures33 .ensures i;
       «total_distance» = c17 .figure-at8 .ensures i;
       «roll_distance» = c18 .figure-at9 .ensures i;
@@ -67,7 +70,7 @@ returns c =
       «club_swing_plane_rotation» = c25 .figure-at15 .ensures i;
       «club_effective_loft» = c26 .figure-at16 .ensures i;
       «club_face_angle» = c27 .figure-at17 .ensures i;
-      «poly_scale» = same z 36 (c28 .t49 .given) i;
+      «poly_scale» = held w32 (c28 .int24-at8 .ensures) (c28 .int24-at8 .ok) i;
       «poly_x» = c29 .figures5 .ensures i;
       «poly_y» = c30 .figures52 .ensures i;
       «poly_z» = c31 .figures53 .ensures i;
@@ -77,12 +80,25 @@ pub of-spec : {M : Type 1} → statement M
 of-spec =
     tie.close
     (tie.spec
-    (λ c. search needs) (λ c κs. search needs) (λ c κs. search needs) (λ c κs. search needs)
+    (λ c κs. search needs) (λ c. search needs) (λ c κs. search needs) (λ c. search needs)
+    (λ c κs. omega (arith, c .before .before .before .pre))
+    (λ c. search needs) (λ c κs. search needs) (λ c. search needs) (λ c κs. search needs) (λ c. search needs)
+    (λ c κs. search needs) (λ c. search needs) (λ c κs. search needs) (λ c. search needs)
+    (λ c κs. search needs) (λ c. search needs) (λ c κs. search needs) (λ c. search needs)
+    (λ c κs. omega (arith, c .before .before .before .before .before .before .before .before .before .before .pre))
     (λ c κs. search needs) (λ c κs. search needs) (λ c κs. search needs) (λ c κs. search needs)
-    (λ c κs. search needs) (λ c κs. search needs) (λ c. search needs) (λ c. search needs) (λ c. search needs)
-    (λ c. search needs) (λ c. search needs) (λ c. search needs) (λ c κs. search needs) (λ c κs. search needs)
-    (λ c κs. search needs) (λ c κs. search needs) (λ c κs. search needs) (λ c κs. search needs)
-    (λ c κs. search needs) (λ c κs. search needs) (λ c κs. search needs) (λ c κs. search needs)
-    (λ c κs. search needs) (λ c κs. search needs) (λ c. search needs) (λ c κs. search needs)
-    (λ c κs. search needs) (λ c κs. search needs)
+    (λ c κs. search needs) (λ c κs. search needs) (λ c. search needs)
+    (λ c κs. omega (arith, c .before .before .before .before .before .before .before .before .before .before .before .before .before .before .before .before .before .pre))
+    (λ c. search needs) (λ c κs. search needs) (λ c. search needs) (λ c κs. search needs) (λ c. search needs)
+    (λ c κs. omega (arith, c .before .before .before .before .before .before .before .before .before .before .before .before .before .before .before .before .before .before .before .before .pre))
+    (λ c. search needs) (λ c κs. search needs) (λ c. search needs) (λ c κs. search needs) (λ c. search needs)
+    (λ c κs. search needs) (λ c. search needs) (λ c κs. search needs) (λ c. search needs)
+    (λ c κs. search needs) (λ c. search needs) (λ c κs. search needs) (λ c. search needs)
+    (λ c κs. search needs) (λ c. search needs) (λ c κs. search needs) (λ c κs. search needs)
+    (λ c. search needs)
+    (λ c κs. omega (arith, c .before .before .before .before .before .before .before .before .before .before .before .before .before .before .before .before .before .before .before .before .before .before .before .before .before .before .before .before .before .before .pre))
+    (λ c. search needs)
+    (λ c κs. omega (arith, c .before .before .before .before .before .before .before .before .before .before .before .before .before .before .before .before .before .before .before .before .before .before .before .before .before .before .before .before .before .before .before .pre))
+    (λ c. search needs)
+    (λ c κs. omega (arith, c .before .before .before .before .before .before .before .before .before .before .before .before .before .before .before .before .before .before .before .before .before .before .before .before .before .before .before .before .before .before .before .before .pre))
     returns)

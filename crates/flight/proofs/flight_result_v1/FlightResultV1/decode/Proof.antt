@@ -2,7 +2,7 @@
 use borrow.Author.Needs.{needs}
 use mathlib.Core.Path.{_∙_}
 use Rattle.numbers.specs.declared.Message.the-variants as message
-use Rattle.numbers.specs.Numbers.{wholesOf, figureOf, ruleOf}
+use Rattle.numbers.specs.Numbers.{wholeOf, figureOf, ruleOf}
 use Rattle.numbers.proofs.Divisors.{divisors}
 use Rattle.flight.specs.Decoding.{numbersIn}
 use Rattle.flight.specs.FlightResultV1Fields.{flightResultV1}
@@ -15,18 +15,16 @@ returns c =
     short message.FlightResultV1 flightResultV1 (c .before .before .before .args .payload .now) (c .before .if1 .taken) (c .zero .ensures)
 
 returns-2 : tie.Need-returns-2
-unfolding wholesOf figureOf ruleOf
+unfolding wholeOf figureOf ruleOf
 returns-2 c =
-    let s = c .before .before .before in
-    let w = s .before .before in
-    let p = w .before .before .before .args .payload .now in
-    let z = w .wholes .ensures in
-    let x = scale-is message.FlightResultV1 p z (s .before .scale-arg .given) (s .scale .ensures) in
-    whole message.FlightResultV1 flightResultV1 p (w .before .if1 .left)
-    (c .of .ensures ∙ (λ i. flightResultV1 (numbersIn message.FlightResultV1 0 (z i) divisors (x i))))
+    let s = c .before .before in
+    let z = s .before in
+    let p = z .before .before .before .args .payload .now in
+    let x = scale-is message.FlightResultV1 p (z .int24-at .ensures) (z .int24-at .ok) (s .scale .ensures) in
+    whole message.FlightResultV1 flightResultV1 p (z .before .if1 .left)
+    (c .of .ensures ∙ (λ i. flightResultV1 (numbersIn message.FlightResultV1 p divisors (x i))))
 
 pub decode-spec : {M : Type 1} → statement M
 decode-spec =
     tie.close
-    (tie.spec (λ c κs. search needs) returns (λ c κs. search needs) (λ c. search needs) (λ c κs. search needs)
-    (λ c κs. search needs) returns-2)
+    (tie.spec (λ c κs. search needs) returns (λ c κs. search needs) (λ c κs. search needs) (λ c κs. search needs) returns-2)

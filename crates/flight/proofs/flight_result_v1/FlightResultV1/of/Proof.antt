@@ -1,10 +1,14 @@
 -- `FlightResultV1::of` meets its contract: each number and figure in the field of its name.
 use borrow.Author.Needs.{needs}
-use Rattle.flight.proofs.Decided.{same}
+use native.Mathlib.Omega.{arith}
+use mir.Syntax.{w32}
+use Rattle.layout.proofs.Held.{held}
+use Rattle.numbers.specs.Numbers.{wholeOf}
 use Rattle.flight.proofs.flight_result_v1.FlightResultV1.of.Statement.{statement}
 use Rattle.flight.proofs.flight_result_v1.FlightResultV1.of.Tie as tie
 
 returns : tie.Need-returns
+unfolding wholeOf
 returns c =
     let c18 = c in
     let c17 = c18 .before in
@@ -25,9 +29,8 @@ returns c =
     let c2 = c3 .before in
     let c1 = c2 .before in
     let c0 = c1 .before in
-    let z = c0 .before .args .z .now in
     λ i. record {
-      total = same z 0 (c0 .t6 .given) i;
+      total = held w32 (c0 .int24-at .ensures) (c0 .int24-at .ok) i;
       «club_velocity» = c1 .figure-at .ensures i;
       «ball_velocity» = c2 .figure-at2 .ensures i;
       «flight_time» = c3 .figure-at3 .ensures i;
@@ -38,11 +41,11 @@ returns c =
       azimuth = c8 .figure-at8 .ensures i;
       «tracked_time» = c9 .figure-at9 .ensures i;
       drag = c10 .figure-at10 .ensures i;
-      «backspin_rpm» = same z 11 (c11 .t19 .given) i;
-      «sidespin_rpm» = same z 12 (c12 .t22 .given) i;
+      «backspin_rpm» = held w32 (c11 .int24-at2 .ensures) (c11 .int24-at2 .ok) i;
+      «sidespin_rpm» = held w32 (c12 .int24-at3 .ensures) (c12 .int24-at3 .ok) i;
       acceleration = c13 .figure-at11 .ensures i;
       «club_strike_direction» = c14 .figure-at12 .ensures i;
-      «poly_scale» = same z 15 (c15 .t27 .given) i;
+      «poly_scale» = held w32 (c15 .int24-at4 .ensures) (c15 .int24-at4 .ok) i;
       «poly_x» = c16 .figures5 .ensures i;
       «poly_y» = c17 .figures52 .ensures i;
       «poly_z» = c18 .figures53 .ensures i;
@@ -52,9 +55,17 @@ pub of-spec : {M : Type 1} → statement M
 of-spec =
     tie.close
     (tie.spec
-    (λ c. search needs) (λ c κs. search needs) (λ c κs. search needs) (λ c κs. search needs)
-    (λ c κs. search needs) (λ c κs. search needs) (λ c κs. search needs) (λ c κs. search needs)
+    (λ c κs. search needs) (λ c. search needs) (λ c κs. search needs) (λ c. search needs)
+    (λ c κs. search needs) (λ c. search needs) (λ c κs. search needs) (λ c. search needs)
+    (λ c κs. search needs) (λ c. search needs) (λ c κs. search needs) (λ c. search needs)
+    (λ c κs. search needs) (λ c. search needs) (λ c κs. search needs) (λ c. search needs)
+    (λ c κs. search needs) (λ c. search needs) (λ c κs. search needs) (λ c. search needs)
     (λ c κs. search needs) (λ c κs. search needs) (λ c κs. search needs) (λ c. search needs)
-    (λ c. search needs) (λ c κs. search needs) (λ c κs. search needs) (λ c. search needs)
-    (λ c κs. search needs) (λ c κs. search needs) (λ c κs. search needs)
+    (λ c κs. search needs) (λ c. search needs) (λ c κs. search needs) (λ c κs. search needs)
+    (λ c. search needs)
+    (λ c κs. omega (arith, c .before .before .before .before .before .before .before .before .before .before .before .before .before .before .before .before .before .pre))
+    (λ c. search needs)
+    (λ c κs. omega (arith, c .before .before .before .before .before .before .before .before .before .before .before .before .before .before .before .before .before .before .pre))
+    (λ c. search needs)
+    (λ c κs. omega (arith, c .before .before .before .before .before .before .before .before .before .before .before .before .before .before .before .before .before .before .before .pre))
     returns)
