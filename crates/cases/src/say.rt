@@ -48,7 +48,7 @@ pub(crate) fn signed(n: i32) {
 // The 32 bits of a number, as INT32 puts them: a cast would ask that it is not negative.
 fn bits_of(n: i32) -> u32 {
     let mut word = [0u8; 4];
-    integer::write_int32(&mut word, 0, n);
+    integer_write::write_int32(&mut word, 0, n);
     integer::uint32_at(&word, 0)
 }
 

@@ -19,8 +19,9 @@ use lib.Ieee.Fits.{down-pos}
 use borrow.Author.Tests.{le-ltb}
 use Rattle.error.specs.Refusal.{yes}
 use Rattle.error.proofs.Cases.{by-lt}
-use Rattle.integer.specs.Fields.{intAt, reading, bytesOf, unsigned, intBytes, written}
-use Rattle.integer.proofs.Back.{int-back, int-kept, length-written}
+use Rattle.integer.specs.Fields.{intAt, reading}
+use Rattle.integer_write.specs.Writing.{bytesOf, unsigned, intBytes, written}
+use Rattle.integer_write.proofs.Back.{int-back, int-kept, length-written}
 use Rattle.integer.proofs.Reading.{reads}
 use Rattle.float40.specs.Float40.{negative, zeroF, value40, float40At, signOf, fieldOf, fractionOf, sizeOf, withSign, exp40, man40, bytes40, bits64, readBack}
 use Rattle.float40.proofs.Signed.{minus-le, minus-lt, less}

@@ -8,7 +8,8 @@ use lib.Count.{trailingZeros}
 use lib.IntN.{pos, negsuc}
 use lib.Ieee.{Float, fin, size, span, climb, odd, units, round, mul, ofInt, toBits}
 use Rattle.error.specs.Refusal.{yes}
-use Rattle.integer.specs.Fields.{beAt, signed, intAt, reading, bytesOf, unsigned, intBytes, writing, written}
+use Rattle.integer.specs.Fields.{beAt, signed, intAt, reading}
+use Rattle.integer_write.specs.Writing.{bytesOf, unsigned, intBytes, writing, written}
 use Rattle.float40.specs.Float40.{zeroF, pow2, value40, float40At, sizeOf, exp40, man40, bytes40, bits64}
 
 -- reading five bytes, and writing a float over five others

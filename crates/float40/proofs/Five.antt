@@ -8,9 +8,9 @@ use lib.ListN.{length, take, drop, length-append}
 use lib.Seq.{sets, length-sets, sets-eq, drop-length}
 use borrow.Rule.Slice.PartMut.{putMid, post-is}
 use Rattle.error.proofs.Stores.{sets-append}
-use Rattle.integer.specs.Fields.{intBytes, written}
-use Rattle.integer.proofs.Bytes.{length-int}
-use Rattle.integer.proofs.Reading.{writes}
+use Rattle.integer_write.specs.Writing.{intBytes, written}
+use Rattle.integer_write.proofs.Bytes.{length-int}
+use Rattle.integer_write.proofs.Cases.{writes}
 use Rattle.float40.specs.Float40.{exp40, man40, bytes40}
 
 -- ---- two runs of bytes, one behind the other, are one run

@@ -8,8 +8,11 @@ use lib.Ieee.{Float}
 use Rattle.error.specs.declared.ResultF64.{ResultF64}
 use Rattle.error.specs.declared.ResultUnit.{ResultUnit}
 use Rattle.error.specs.Result.{toldUnit, toldF64}
-use Rattle.integer.specs.Fields.{reading, writing, written}
-use Rattle.integer.proofs.Unique.{one-at, one-read-f64, one-write}
+use Rattle.error.proofs.Decides.{one-f64}
+use Rattle.integer.specs.Fields.{reading}
+use Rattle.integer_write.specs.Writing.{writing, written}
+use Rattle.integer.proofs.Unique.{one-at}
+use Rattle.integer_write.proofs.Unique.{one-write}
 use Rattle.float40.specs.Float40.{value40, float40At, bytes40}
 
 pub one-float40-of : (e m : ℤ) {r t : Float} → r ≡ value40 e m → t ≡ value40 e m → r ≡ t
@@ -20,7 +23,7 @@ module _ (s : List ℕ) (at : ℕ) where
   one-float40-at = one-at
 
   pub one-read-float40 : {r t : ResultF64} → toldF64 r ≡ reading 7 5 float40At s at → toldF64 t ≡ reading 7 5 float40At s at → r ≡ t
-  one-read-float40 = one-read-f64 7 5 s at float40At
+  one-read-float40 = one-f64
 
   -- `write_float40_bits`, and `write_float40` with b the bits of its value
   pub one-write-float40 : (b : ℕ) {r t : ResultUnit} {c d : List ℕ}

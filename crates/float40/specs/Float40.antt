@@ -7,7 +7,8 @@ use lib.Dec.{eqb, leb}
 use lib.IntN.{ℤ, pos, negsuc, natAbs, negℤ, _-ℤ_}
 use lib.Signed.{ltZ}
 use lib.Ieee.{Float, fin, inf, binary64, minus, mul, ofInt, toBits}
-use Rattle.integer.specs.Fields.{intAt, intBytes}
+use Rattle.integer.specs.Fields.{intAt}
+use Rattle.integer_write.specs.Writing.{intBytes}
 
 -- ---- reading
 

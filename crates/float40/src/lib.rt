@@ -6,7 +6,8 @@ ghost use Prim.Native.Nat.{_<_};
 ghost use lib.ListN.{length};
 ghost use lib.Ieee.{fin, minus};
 ghost use Rattle.error.specs.Result.{toldUnit, toldF64};
-ghost use Rattle.integer.specs.Fields.{reading, writing, written};
+ghost use Rattle.integer.specs.Fields.{reading};
+ghost use Rattle.integer_write.specs.Writing.{writing, written};
 ghost use Rattle.float40.specs.Float40.{pow2, value40, float40At, exp40, man40, bytes40, bits64};
 use error::ResultF64;
 use error::ResultUnit;
@@ -112,8 +113,8 @@ fn lay(buf: &mut [u8], bits: u64)
     ensures { λ _. ⌜ now (buf .exit) ≡ bytes40 bits ⌝ }
 {
     let parts = parts_of(bits);
-    integer::write_int16(buf, 0, parts.exponent);
-    integer::write_int24(buf, 2, parts.mantissa);
+    integer_write::write_int16(buf, 0, parts.exponent);
+    integer_write::write_int24(buf, 2, parts.mantissa);
 }
 
 // The 64 bits of a float, every NaN as one.

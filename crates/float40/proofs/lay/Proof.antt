@@ -7,7 +7,7 @@ use lib.IntN.{ℤ}
 use mir.Syntax.{w16, w32}
 use mir.Val.{toZ, ofZ}
 use mir.ValLaws.{toZ-ofZ}
-use Rattle.integer.specs.Fields.{intBytes, written}
+use Rattle.integer_write.specs.Writing.{intBytes, written}
 use Rattle.float40.specs.Float40.{exp40, man40}
 use Rattle.float40.proofs.Five.{laid}
 use Rattle.float40.proofs.lay.Statement.{statement}

@@ -2,7 +2,7 @@
 use borrow.Author.Needs.{needs}
 use Prim.Native.Nat.{ℕ}
 use mathlib.Core.Path.{ap, _∙_}
-use Rattle.integer.specs.Fields.{writing, written}
+use Rattle.integer_write.specs.Writing.{writing, written}
 use Rattle.float40.specs.Float40.{bytes40}
 use Rattle.float40.proofs.write_float40.Statement.{statement}
 use Rattle.float40.proofs.write_float40.Tie as tie

@@ -8,7 +8,7 @@ use lib.ListN.{length}
 use borrow.Rule.Slice.PartMut.{putMid}
 use Rattle.error.specs.Refusal.{no}
 use Rattle.integer.specs.Fields.{needAt}
-use Rattle.integer.proofs.Reading.{writes, no-room}
+use Rattle.integer_write.proofs.Cases.{writes, no-room}
 use Rattle.float40.specs.Float40.{bytes40}
 use Rattle.float40.proofs.Five.{five, put-back}
 use Rattle.float40.proofs.write_float40_bits.Statement.{statement}
