@@ -2,7 +2,7 @@
 // A refusal keeps the buffer; a field that is written keeps the three words.
 ghost use mathlib.Core.Path.{_≡_};
 ghost use Rattle.integer_write.specs.Writing.{bytesOf, intBytes, writing, written};
-ghost use Rattle.float40.specs.Float40.{bytes40, bits64};
+ghost use Rattle.float40_write.specs.Writing.{bytes40, bits64};
 ghost use Rattle.abi.specs.Answer.{Passed};
 use abi::unit;
 
@@ -94,7 +94,7 @@ pub extern "C" fn mvd_write_float40(
     ensures { λ k. ⌜ Passed (writing (bytes40 (bits64 value)) (now (buf .entry)) offset) tt (now (values .entry)) k tt (now (values .exit)) ⌝ }
     ensures { λ _. ⌜ now (buf .exit) ≡ written (bytes40 (bits64 value)) (now (buf .entry)) offset ⌝ }
 {
-    unit(float40::write_float40(buf, offset, value), values)
+    unit(float40_write::write_float40(buf, offset, value), values)
 }
 
 #[no_mangle]
@@ -107,5 +107,5 @@ pub extern "C" fn mvd_write_float40_bits(
     ensures { λ k. ⌜ Passed (writing (bytes40 bits) (now (buf .entry)) offset) tt (now (values .entry)) k tt (now (values .exit)) ⌝ }
     ensures { λ _. ⌜ now (buf .exit) ≡ written (bytes40 bits) (now (buf .entry)) offset ⌝ }
 {
-    unit(float40::write_float40_bits(buf, offset, bits), values)
+    unit(float40_write::write_float40_bits(buf, offset, bits), values)
 }

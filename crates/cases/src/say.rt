@@ -54,7 +54,7 @@ fn bits_of(n: i32) -> u32 {
 
 pub(crate) fn float(x: f64) {
     io::write_all(STDOUT_FILENO, b" ");
-    io::print_hex(STDOUT_FILENO, float40::bits_of(x), 16);
+    io::print_hex(STDOUT_FILENO, float40_write::bits_of(x), 16);
 }
 
 pub(crate) fn wholes(ns: &[u64]) {

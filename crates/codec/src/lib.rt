@@ -1,10 +1,10 @@
 // Field codecs for the wire protocol, under the names of codec.rs.
-// The integer fields are proved in `integer`, `integer_read` and `integer_write`, FLOAT40 in `float40`; nothing is added here.
+// The integer fields are proved in `integer`, `integer_read` and `integer_write`, FLOAT40 in `float40` and `float40_write`; nothing is added here.
 pub use float40::float40_at;
 pub use float40::float40_of;
 pub use float40::read_float40;
-pub use float40::write_float40;
-pub use float40::write_float40_bits;
+pub use float40_write::write_float40;
+pub use float40_write::write_float40_bits;
 pub use integer::byte_at;
 pub use integer::int16_at;
 pub use integer::int24_at;

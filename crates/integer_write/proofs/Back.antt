@@ -73,7 +73,8 @@ unfolding beAt
 be-front zero s at = let e : at + 0 ≡ at = omega arith in rw e (omega arith)
 be-front (suc k) s at =
     let e : at + suc k ≡ suc at + k = omega arith in
-    let p : getD s at 0 * 256 ^ suc k ≡ getD s at 0 * 256 ^ k * 256 = ap (λ (n : ℕ). getD s at 0 * n) (pow-suc 256 k) ∙ sym (mul-assoc (getD s at 0) (256 ^ k) 256) in
+    let p : getD s at 0 * 256 ^ suc k ≡ getD s at 0 * 256 ^ k * 256 =
+    ap (λ (n : ℕ). getD s at 0 * n) (pow-suc 256 k) ∙ sym (mul-assoc (getD s at 0) (256 ^ k) 256) in
     ap (λ (n : ℕ). n * 256 + getD s (at + suc k) 0) (be-front k s at)
     ∙ ap (λ (n : ℕ). (getD s at 0 * 256 ^ k + beAt k s (suc at)) * 256 + getD s n 0) e
     ∙ omega (arith, p)
@@ -108,13 +109,17 @@ pub int-back : (k : ℕ) (z : ℤ) (s : List ℕ) (at : ℕ) → 0 < k → mag z
 int-back k z s at o g h = int-low k z s at h ∙ signed-unsigned (8 * k) z (omega arith) g
 
 -- as a reader tells it
-pub be-reads-back : (kind k n : ℕ) (s : List ℕ) (at : ℕ) → n < 2 ^ (8 * k) → at + k ≤ length s → reading kind k (beAt k) (written (bytesOf k n) s at) at ≡ yes n
+pub be-reads-back : (kind k n : ℕ) (s : List ℕ) (at : ℕ) → n < 2 ^ (8 * k) → at + k ≤ length s
+    → reading kind k (beAt k) (written (bytesOf k n) s at) at ≡ yes n
 be-reads-back kind k n s at g h =
-    reads-where kind k (beAt k) (written (bytesOf k n) s at) at (le-leb (at + k) (length (written (bytesOf k n) s at)) (rw length-written h)) ∙ ap yes (be-back k n s at g h)
+    reads-where kind k (beAt k) (written (bytesOf k n) s at) at (le-leb (at + k) (length (written (bytesOf k n) s at)) (rw length-written h))
+    ∙ ap yes (be-back k n s at g h)
 
-pub int-reads-back : (kind k : ℕ) (z : ℤ) (s : List ℕ) (at : ℕ) → 0 < k → mag z < 2 ^ (8 * k - 1) → at + k ≤ length s → reading kind k (intAt k) (written (intBytes k z) s at) at ≡ yes z
+pub int-reads-back : (kind k : ℕ) (z : ℤ) (s : List ℕ) (at : ℕ) → 0 < k → mag z < 2 ^ (8 * k - 1) → at + k ≤ length s
+    → reading kind k (intAt k) (written (intBytes k z) s at) at ≡ yes z
 int-reads-back kind k z s at o g h =
-    reads-where kind k (intAt k) (written (intBytes k z) s at) at (le-leb (at + k) (length (written (intBytes k z) s at)) (rw length-written h)) ∙ ap yes (int-back k z s at o g h)
+    reads-where kind k (intAt k) (written (intBytes k z) s at) at (le-leb (at + k) (length (written (intBytes k z) s at)) (rw length-written h))
+    ∙ ap yes (int-back k z s at o g h)
 
 -- ---- what is read, written again, changes nothing
 
@@ -125,9 +130,13 @@ module _ (s : List ℕ) (bytes : (i : ℕ) → getD s i 0 < 256) where
   sets-again (suc k) at =
       let n = beAt (suc k) s at in
       let m : beAt k s (suc at) < 256 ^ k = rw bytes-bits (be-lt k s (suc at) bytes) in
-      let b : n / 256 ^ k % 256 ≡ getD s at 0 = ap (λ (y : ℕ). y / 256 ^ k % 256) (be-front k s at) ∙ ap (λ (y : ℕ). y % 256) (digits-div (getD s at 0) m) ∙ mod-eq-of-lt (bytes at) in
-      let r : bytesOf k n ≡ bytesOf k (beAt k s (suc at)) = sym (bytes-low (8 * k) k n (omega arith)) ∙ ap (bytesOf k) (sym (ap (λ (y : ℕ). n % y) (bytes-bits k)) ∙ ap (λ (y : ℕ). y % 256 ^ k) (be-front k s at) ∙ digits-mod (getD s at 0) m) in
-      (λ i. sets (set s at (b i)) (suc at) (r i)) ∙ ap (λ (l : List ℕ). sets l (suc at) (bytesOf k (beAt k s (suc at)))) (set-getD s at 0) ∙ sets-again k (suc at)
+      let b : n / 256 ^ k % 256 ≡ getD s at 0 =
+      ap (λ (y : ℕ). y / 256 ^ k % 256) (be-front k s at) ∙ ap (λ (y : ℕ). y % 256) (digits-div (getD s at 0) m) ∙ mod-eq-of-lt (bytes at) in
+      let r : bytesOf k n ≡ bytesOf k (beAt k s (suc at)) =
+      sym (bytes-low (8 * k) k n (omega arith))
+      ∙ ap (bytesOf k) (sym (ap (λ (y : ℕ). n % y) (bytes-bits k)) ∙ ap (λ (y : ℕ). y % 256 ^ k) (be-front k s at) ∙ digits-mod (getD s at 0) m) in
+      (λ i. sets (set s at (b i)) (suc at) (r i))
+      ∙ ap (λ (l : List ℕ). sets l (suc at) (bytesOf k (beAt k s (suc at)))) (set-getD s at 0) ∙ sets-again k (suc at)
 
   pub be-again : (k at : ℕ) → written (bytesOf k (beAt k s at)) s at ≡ s
   unfolding written

@@ -1,4 +1,5 @@
--- A signed number made a natural one by adding H, over H and the widths. Assumes nothing.
+-- A signed number made a natural one by adding H, over H and the widths: how the bits of one are taken.
+-- Assumes nothing.
 use Prim.Native.Nat.{ℕ, suc, _+_, _-_, _%_, _^_, _<_}
 use mathlib.Core.Path.{_≡_, refl, sym, ap, subst, _∙_}
 use mathlib.Core.Bool.{Bool, cond}
@@ -11,8 +12,8 @@ use lib.Signed.{mag}
 use mir.Syntax.{Width}
 use mir.Val.{SFits, toZ, ofZ, hbits}
 use mir.ValLaws.{toZ-ofZ}
-use mir.Facts.{sfits-widen}
 use borrow.Author.Tests.{le-ltb}
+use Rattle.integer.proofs.Casts.{kept}
 use Rattle.integer_write.specs.Writing.{unsigned}
 
 unfoldable pub lift : ℕ → ℤ → ℕ
@@ -35,13 +36,6 @@ pub lift-bits : (w : ℕ) (z : ℤ) → mag z < 2 ^ w → lift (2 ^ w) z % 2 ^ w
 unfolding lift unsigned
 lift-bits w (pos n) h = add-mod-right n (2 ^ w)
 lift-bits w (negsuc n) h = mod-eq-of-lt (pow-sub-lt w (omega arith)) ∙ ap (λ (m : ℕ). 2 ^ w - suc m) (sym (mod-eq-of-lt h))
-
--- a cast to a signed type that is as wide or wider fits, and keeps the number
-pub cast-fits : (W U : Width) (z : ℤ) → T (leb (hbits W) (hbits U)) → SFits W z → SFits U (toZ W (ofZ W z))
-cast-fits W U z t f = subst (λ (y : ℤ). SFits U y) (sym (toZ-ofZ W z f)) (sfits-widen t f)
-
-pub kept : (W U : Width) (z : ℤ) → T (leb (hbits W) (hbits U)) → SFits W z → toZ U (ofZ U (toZ W (ofZ W z))) ≡ z
-kept W U z t f = toZ-ofZ U (toZ W (ofZ W z)) (cast-fits W U z t f) ∙ toZ-ofZ W z f
 
 -- the sum as the machine has it: z, of the width W, cast to a wider width U, and H added
 module _ (W U : Width) (H : ℕ) (z : ℤ) (f : SFits W z) (h : mag z < H) (t : T (leb (hbits W) (hbits U))) (g : T (leb (H + H) (2 ^ hbits U))) where

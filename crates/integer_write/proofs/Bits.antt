@@ -31,7 +31,8 @@ unsigned-low v w z h = let e : w ≡ w - v + v = omega arith in rw e (over (w - 
         let l : q < 2 ^ d = shr-lt d v (mod-lt n (pow-pos (d + v))) in
         let e : p + q ≡ 2 ^ d - 1 = omega arith in
         let s : p * 2 ^ v + q * 2 ^ v ≡ (2 ^ d - 1) * 2 ^ v = sym (add-mul p q (2 ^ v)) ∙ ap (λ (x : ℕ). x * 2 ^ v) e in
-        let r : 2 ^ (d + v) - suc m ≡ p * 2 ^ v + (2 ^ v - suc (n % 2 ^ v)) = omega (arith, split m v, mod-mod-pow n d v, mod-lt n (pow-pos v), mod-lt n (pow-pos (d + v)), ones-split d v, s) in
+        let r : 2 ^ (d + v) - suc m ≡ p * 2 ^ v + (2 ^ v - suc (n % 2 ^ v)) =
+        omega (arith, split m v, mod-mod-pow n d v, mod-lt n (pow-pos v), mod-lt n (pow-pos (d + v)), ones-split d v, s) in
         ap (λ (t : ℕ). t % 2 ^ v) r ∙ low p v (omega (arith, pow-pos v))
 
 -- ---- each undoes the other

@@ -1,13 +1,13 @@
 -- `read_int16_scaled` meets its contract: what `read_int16` tells, divided once.
 use borrow.Author.Needs.{needs}
-use mathlib.Core.Path.{refl, ap, _∙_}
+use mathlib.Core.Path.{ap, _∙_}
 use lib.IntN.{ℤ}
 use mir.Syntax.{w16}
 use mir.ValLaws.{toZ-ofZ}
 use Rattle.error.specs.Refusal.{yes}
 use Rattle.error.specs.Result.{toldI16}
-use Rattle.integer.specs.Fields.{intAt, scaledBy}
-use Rattle.integer_read.proofs.Turned.{turned}
+use Rattle.integer.specs.Fields.{scaledBy}
+use Rattle.integer_read.proofs.Turned.{scaled}
 use Rattle.integer_read.proofs.read_int16_scaled.Statement.{statement}
 use Rattle.integer_read.proofs.read_int16_scaled.Tie as tie
 
@@ -15,12 +15,12 @@ returns : tie.Need-returns
 returns c =
     let a = c .before .before .before .before .before .before .args in
     ap (λ (z : ℤ). yes (scaledBy (a .scale) z)) (toZ-ofZ w16 (c .before .before .val .given .0 .0) (search needs))
-    ∙ turned toldI16 1 2 (intAt 2) (λ s at. scaledBy (a .scale) (intAt 2 s at)) (a .«data» .now) (a .offset) (scaledBy (a .scale)) refl (c .before .before .before .before .read-int16 .ensures) (c .before .before .val .given .1)
+    ∙ scaled toldI16 1 2 (a .scale) (a .«data» .now) (a .offset) (c .before .before .before .before .read-int16 .ensures) (c .before .before .val .given .1)
 
 returns-2 : tie.Need-returns-2
 returns-2 c =
     let a = c .before .before .before .before .before .args in
-    turned toldI16 1 2 (intAt 2) (λ s at. scaledBy (a .scale) (intAt 2 s at)) (a .«data» .now) (a .offset) (scaledBy (a .scale)) refl (c .before .before .before .read-int16 .ensures) (c .before .e .given .1)
+    scaled toldI16 1 2 (a .scale) (a .«data» .now) (a .offset) (c .before .before .before .read-int16 .ensures) (c .before .e .given .1)
 
 pub read-int16-scaled-spec : {M : Type 1} → statement M
 read-int16-scaled-spec =

@@ -9,7 +9,8 @@ use lib.Signed.{nonNeg}
 use mir.Syntax.{w32, w64}
 use mir.Val.{Fits}
 use mir.ValLaws.{half-full}
-use Rattle.integer_write.proofs.Bias.{cast-fits, lift-lt, lift-bits, sum-fits, sum-back}
+use Rattle.integer.proofs.Casts.{cast-fits}
+use Rattle.integer_write.proofs.Bias.{lift-lt, lift-bits, sum-fits, sum-back}
 use Rattle.integer_write.proofs.bits_of.Statement.{statement}
 use Rattle.integer_write.proofs.bits_of.Tie as tie
 

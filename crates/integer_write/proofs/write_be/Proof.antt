@@ -37,7 +37,8 @@ need-at-requires c κs = search needs
 returns-2 : tie.Need-returns-2
 returns-2 c =
     let a = c .before .before .before .before .args in
-    let w = no-room-where (bytesOf (a .k) (a .n)) (a .buf .now) (a .offset) (rw length-bytes (sym (c .before .before .within .ensures) ∙ c .before .if1 .left)) in
+    let w =
+    no-room-where (bytesOf (a .k) (a .n)) (a .buf .now) (a .offset) (rw length-bytes (sym (c .before .before .within .ensures) ∙ c .before .if1 .left)) in
     let e : c .need-at .result ≡ needAt (length (bytesOf (a .k) (a .n))) (a .offset) = rw length-bytes (c .need-at .ensures) in
     (ap (λ (n : ℕ). no 8 (n ∷ length (a .buf .now) ∷ [])) e ∙ sym (w .0), sym (w .1))
 

@@ -27,7 +27,9 @@ returns c =
     let a = start .args in
     let w = c .before .before .write-be in
     let h : 8 * a .k ≤ 32 = omega arith in
-    let e = ap (bytesOf (a .k)) (c .before .before .before .bits-of .ensures ∙ ap (unsigned 32) (toZ-ofZ w32 (a .val) (start .fits .val))) ∙ wide 32 (a .k) (a .val) h in
+    let e =
+    ap (bytesOf (a .k)) (c .before .before .before .bits-of .ensures ∙ ap (unsigned 32) (toZ-ofZ w32 (a .val) (start .fits .val)))
+    ∙ wide 32 (a .k) (a .val) h in
     subst (λ (bs : List ℕ). Wrote (w .result) (w .last .0) bs (a .buf .now) (a .offset)) e (w .ensures)
 
 pub write-int-spec : {M : Type 1} → statement M

@@ -3,8 +3,8 @@ use borrow.Author.Needs.{needs}
 use mathlib.Core.Path.{subst}
 use lib.IntN.{ℤ}
 use mir.Syntax.{w16, w32}
+use Rattle.integer.proofs.Casts.{kept, cast-fits}
 use Rattle.integer_write.specs.Writing.{intBytes}
-use Rattle.integer_write.proofs.Bias.{kept, cast-fits}
 use Rattle.integer_write.proofs.Cases.{Wrote}
 use Rattle.integer_write.proofs.write_int16.Statement.{statement}
 use Rattle.integer_write.proofs.write_int16.Tie as tie

@@ -8,10 +8,10 @@ use mir.Syntax.{w16, w32}
 use mir.Val.{toZ, ofZ}
 use mir.ValLaws.{toZ-ofZ}
 use Rattle.integer_write.specs.Writing.{intBytes, written}
-use Rattle.float40.specs.Float40.{exp40, man40}
-use Rattle.float40.proofs.Five.{laid}
-use Rattle.float40.proofs.lay.Statement.{statement}
-use Rattle.float40.proofs.lay.Tie as tie
+use Rattle.float40_write.specs.Writing.{exp40, man40}
+use Rattle.float40_write.proofs.Five.{laid}
+use Rattle.float40_write.proofs.lay.Statement.{statement}
+use Rattle.float40_write.proofs.lay.Tie as tie
 
 parts-of-requires : tie.Need-parts-of-requires
 parts-of-requires c κs = search needs

@@ -11,7 +11,7 @@ use Rattle.error.proofs.Stores.{sets-append}
 use Rattle.integer_write.specs.Writing.{intBytes, written}
 use Rattle.integer_write.proofs.Bytes.{length-int}
 use Rattle.integer_write.proofs.Cases.{writes}
-use Rattle.float40.specs.Float40.{exp40, man40, bytes40}
+use Rattle.float40_write.specs.Writing.{exp40, man40, bytes40}
 
 -- ---- two runs of bytes, one behind the other, are one run
 

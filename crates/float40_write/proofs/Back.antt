@@ -20,14 +20,15 @@ use borrow.Author.Tests.{le-ltb}
 use Rattle.error.specs.Refusal.{yes}
 use Rattle.error.proofs.Cases.{by-lt}
 use Rattle.integer.specs.Fields.{intAt, reading}
+use Rattle.integer.proofs.Reading.{reads}
 use Rattle.integer_write.specs.Writing.{bytesOf, unsigned, intBytes, written}
 use Rattle.integer_write.proofs.Back.{int-back, int-kept, length-written}
-use Rattle.integer.proofs.Reading.{reads}
-use Rattle.float40.specs.Float40.{negative, zeroF, value40, float40At, signOf, fieldOf, fractionOf, sizeOf, withSign, exp40, man40, bytes40, bits64, readBack}
+use Rattle.float40.specs.Float40.{negative, zeroF, value40, float40At}
 use Rattle.float40.proofs.Signed.{minus-le, minus-lt, less}
-use Rattle.float40.proofs.Apart.{zero-parts, other-parts, keeps, size-bounds, abs-with, exp-fits, man-fits}
-use Rattle.float40.proofs.Five.{fields}
 use Rattle.float40.proofs.Value.{reads-zero, reads-exact, reads-over}
+use Rattle.float40_write.specs.Writing.{signOf, fieldOf, fractionOf, sizeOf, withSign, exp40, man40, bytes40, bits64, readBack}
+use Rattle.float40_write.proofs.Apart.{zero-parts, other-parts, keeps, size-bounds, abs-with, exp-fits, man-fits}
+use Rattle.float40_write.proofs.Five.{fields}
 
 -- ---- through a buffer: what is written there is read there
 
@@ -93,7 +94,8 @@ module _ (b : ℕ) (some : b % 2 ^ 63 ≡ 0 → ⊥) where
   fits h =
       let n = sizeOf b in
       let k = minus (fieldOf b) 1045 in
-      let small : n * 2 ^ fieldOf b < 2 ^ 2069 = lt-of-lt-of-le (shl-lt 23 (fieldOf b) (size-bounds b .1)) (pow-mono {i = 23 + fieldOf b} {j = 2069} (omega arith)) in
+      let small : n * 2 ^ fieldOf b < 2 ^ 2069 =
+      lt-of-lt-of-le (shl-lt 23 (fieldOf b) (size-bounds b .1)) (pow-mono {i = 23 + fieldOf b} {j = 2069} (omega arith)) in
       lt-of-mul-lt-mul-right (2 ^ 1045)
       (rw (minus-val n (fieldOf b) 1045, mul-right-comm (2 ^ 1024) (down k) (2 ^ 1045)) (mul-lt-mul-of-pos-right small (down-pos k)))
 

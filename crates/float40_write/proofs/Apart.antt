@@ -9,8 +9,8 @@ use lib.Signed.{mag}
 use lib.Ieee.{minus}
 use borrow.Author.Tests.{eq-eqb, ne-eqb}
 use Rattle.error.proofs.Cases.{by-eq}
-use Rattle.float40.specs.Float40.{signOf, fieldOf, fractionOf, sizeOf, withSign, exp40, man40}
 use Rattle.float40.proofs.Signed.{mag-minus}
+use Rattle.float40_write.specs.Writing.{signOf, fieldOf, fractionOf, sizeOf, withSign, exp40, man40}
 
 -- ---- the two cases
 

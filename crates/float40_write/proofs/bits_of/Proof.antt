@@ -6,9 +6,9 @@ use lib.Dec.{T}
 use lib.Ieee.{Float, nan, inf, fin, ne, isNan, toBits}
 use lib.Ieee.Compare.{differs-from-itself, nan-differs}
 use denote.Floats.{passes}
-use Rattle.float40.specs.Float40.{bits64}
-use Rattle.float40.proofs.bits_of.Statement.{statement}
-use Rattle.float40.proofs.bits_of.Tie as tie
+use Rattle.float40_write.specs.Writing.{bits64}
+use Rattle.float40_write.proofs.bits_of.Statement.{statement}
+use Rattle.float40_write.proofs.bits_of.Tie as tie
 
 no-nan : (x : Float) → ne x x ≡ false → T (not (isNan x))
 unfolding isNan

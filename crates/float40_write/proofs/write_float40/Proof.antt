@@ -3,9 +3,9 @@ use borrow.Author.Needs.{needs}
 use Prim.Native.Nat.{ℕ}
 use mathlib.Core.Path.{ap, _∙_}
 use Rattle.integer_write.specs.Writing.{writing, written}
-use Rattle.float40.specs.Float40.{bytes40}
-use Rattle.float40.proofs.write_float40.Statement.{statement}
-use Rattle.float40.proofs.write_float40.Tie as tie
+use Rattle.float40_write.specs.Writing.{bytes40}
+use Rattle.float40_write.proofs.write_float40.Statement.{statement}
+use Rattle.float40_write.proofs.write_float40.Tie as tie
 
 bits-of-requires : tie.Need-bits-of-requires
 bits-of-requires c κs = search needs

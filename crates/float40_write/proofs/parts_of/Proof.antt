@@ -10,11 +10,11 @@ use mir.Syntax.{w16, w32}
 use mir.Val.{SFits, toZ, ofZ}
 use mir.ValLaws.{toZ-pos, toZ-ofZ}
 use borrow.Author.Tests.{le-leb, lt-leb}
-use Rattle.float40.specs.Float40.{signOf, sizeOf, exp40, man40, withSign}
 use Rattle.float40.proofs.Signed.{sub-minus}
-use Rattle.float40.proofs.Apart.{zero-parts, other-parts, size-bounds, exp-fits, mag-with}
-use Rattle.float40.proofs.parts_of.Statement.{statement}
-use Rattle.float40.proofs.parts_of.Tie as tie
+use Rattle.float40_write.specs.Writing.{signOf, sizeOf, exp40, man40, withSign}
+use Rattle.float40_write.proofs.Apart.{zero-parts, other-parts, size-bounds, exp-fits, mag-with}
+use Rattle.float40_write.proofs.parts_of.Statement.{statement}
+use Rattle.float40_write.proofs.parts_of.Tie as tie
 
 -- the exponent field and |m|, as the code has them
 abbrev field : ℕ → ℕ

@@ -9,7 +9,7 @@ use lib.Pow.{field}
 use lib.Ieee.{binary64, odd, ofFields, ofBits}
 use lib.Ieee.Exact.{HasValue, odd-sign}
 use borrow.Author.Tests.{ne-eqb}
-use Rattle.float40.specs.Float40.{signOf, fieldOf, fractionOf}
+use Rattle.float40_write.specs.Writing.{signOf, fieldOf, fractionOf}
 
 apart : (b : ℕ) → ofBits binary64 b ≡ ofFields binary64 (signOf b) (fieldOf b) (fractionOf b)
 unfolding ofBits

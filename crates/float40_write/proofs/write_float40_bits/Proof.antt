@@ -9,10 +9,10 @@ use borrow.Rule.Slice.PartMut.{putMid}
 use Rattle.error.specs.Refusal.{no}
 use Rattle.integer.specs.Fields.{needAt}
 use Rattle.integer_write.proofs.Cases.{writes, no-room}
-use Rattle.float40.specs.Float40.{bytes40}
-use Rattle.float40.proofs.Five.{five, put-back}
-use Rattle.float40.proofs.write_float40_bits.Statement.{statement}
-use Rattle.float40.proofs.write_float40_bits.Tie as tie
+use Rattle.float40_write.specs.Writing.{bytes40}
+use Rattle.float40_write.proofs.Five.{five, put-back}
+use Rattle.float40_write.proofs.write_float40_bits.Statement.{statement}
+use Rattle.float40_write.proofs.write_float40_bits.Tie as tie
 
 need-at-requires : tie.Need-need-at-requires
 need-at-requires c κs = search needs
