@@ -19,7 +19,7 @@ pub extern "C" fn mvd_read_int16(
 ) -> u64
     ensures { λ k. ⌜ Passed (reading 1 2 (intAt 2) (now («data» .entry)) offset) (now (value .entry)) (now (values .entry)) k (now (value .exit)) (now (values .exit)) ⌝ }
 {
-    match integer::read_int16(data, offset) {
+    match integer_read::read_int16(data, offset) {
         ResultI16::Ok(n) => {
             *value = n;
             0
@@ -37,7 +37,7 @@ pub extern "C" fn mvd_read_uint16(
 ) -> u64
     ensures { λ k. ⌜ Passed (reading 2 2 (beAt 2) (now («data» .entry)) offset) (now (value .entry)) (now (values .entry)) k (now (value .exit)) (now (values .exit)) ⌝ }
 {
-    match integer::read_uint16(data, offset) {
+    match integer_read::read_uint16(data, offset) {
         ResultU16::Ok(n) => {
             *value = n;
             0
@@ -55,7 +55,7 @@ pub extern "C" fn mvd_read_int24(
 ) -> u64
     ensures { λ k. ⌜ Passed (reading 3 3 (intAt 3) (now («data» .entry)) offset) (now (value .entry)) (now (values .entry)) k (now (value .exit)) (now (values .exit)) ⌝ }
 {
-    match integer::read_int24(data, offset) {
+    match integer_read::read_int24(data, offset) {
         ResultI32::Ok(n) => {
             *value = n;
             0
@@ -73,7 +73,7 @@ pub extern "C" fn mvd_read_uint24(
 ) -> u64
     ensures { λ k. ⌜ Passed (reading 4 3 (beAt 3) (now («data» .entry)) offset) (now (value .entry)) (now (values .entry)) k (now (value .exit)) (now (values .exit)) ⌝ }
 {
-    match integer::read_uint24(data, offset) {
+    match integer_read::read_uint24(data, offset) {
         ResultU32::Ok(n) => {
             *value = n;
             0
@@ -91,7 +91,7 @@ pub extern "C" fn mvd_read_int32(
 ) -> u64
     ensures { λ k. ⌜ Passed (reading 5 4 (intAt 4) (now («data» .entry)) offset) (now (value .entry)) (now (values .entry)) k (now (value .exit)) (now (values .exit)) ⌝ }
 {
-    match integer::read_int32(data, offset) {
+    match integer_read::read_int32(data, offset) {
         ResultI32::Ok(n) => {
             *value = n;
             0
@@ -109,7 +109,7 @@ pub extern "C" fn mvd_read_uint32(
 ) -> u64
     ensures { λ k. ⌜ Passed (reading 6 4 (beAt 4) (now («data» .entry)) offset) (now (value .entry)) (now (values .entry)) k (now (value .exit)) (now (values .exit)) ⌝ }
 {
-    match integer::read_uint32(data, offset) {
+    match integer_read::read_uint32(data, offset) {
         ResultU32::Ok(n) => {
             *value = n;
             0
@@ -128,7 +128,7 @@ pub extern "C" fn mvd_read_int24_scaled(
 ) -> u64
     ensures { λ k. ⌜ Passed (reading 3 3 (λ s at. scaledBy scale (intAt 3 s at)) (now («data» .entry)) offset) (now (value .entry)) (now (values .entry)) k (now (value .exit)) (now (values .exit)) ⌝ }
 {
-    match integer::read_int24_scaled(data, offset, scale) {
+    match integer_read::read_int24_scaled(data, offset, scale) {
         ResultF64::Ok(n) => {
             *value = n;
             0
@@ -147,7 +147,7 @@ pub extern "C" fn mvd_read_int16_scaled(
 ) -> u64
     ensures { λ k. ⌜ Passed (reading 1 2 (λ s at. scaledBy scale (intAt 2 s at)) (now («data» .entry)) offset) (now (value .entry)) (now (values .entry)) k (now (value .exit)) (now (values .exit)) ⌝ }
 {
-    match integer::read_int16_scaled(data, offset, scale) {
+    match integer_read::read_int16_scaled(data, offset, scale) {
         ResultF64::Ok(n) => {
             *value = n;
             0

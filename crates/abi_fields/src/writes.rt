@@ -1,8 +1,8 @@
 // The writers for C: a field's bytes at a place, or refusal 8.
 // A refusal keeps the buffer; a field that is written keeps the three words.
 ghost use mathlib.Core.Path.{_≡_};
-ghost use Rattle.integer.specs.Fields.{bytesOf, intBytes, writing, written};
-ghost use Rattle.float40.specs.Float40.{bytes40, bits64};
+ghost use Rattle.integer_write.specs.Writing.{bytesOf, intBytes, writing, written};
+ghost use Rattle.float40_write.specs.Writing.{bytes40, bits64};
 ghost use Rattle.abi.specs.Answer.{Passed};
 use abi::unit;
 
@@ -16,7 +16,7 @@ pub extern "C" fn mvd_write_int16(
     ensures { λ k. ⌜ Passed (writing (intBytes 2 val) (now (buf .entry)) offset) tt (now (values .entry)) k tt (now (values .exit)) ⌝ }
     ensures { λ _. ⌜ now (buf .exit) ≡ written (intBytes 2 val) (now (buf .entry)) offset ⌝ }
 {
-    unit(integer::write_int16(buf, offset, val), values)
+    unit(integer_write::write_int16(buf, offset, val), values)
 }
 
 #[no_mangle]
@@ -29,7 +29,7 @@ pub extern "C" fn mvd_write_uint16(
     ensures { λ k. ⌜ Passed (writing (bytesOf 2 val) (now (buf .entry)) offset) tt (now (values .entry)) k tt (now (values .exit)) ⌝ }
     ensures { λ _. ⌜ now (buf .exit) ≡ written (bytesOf 2 val) (now (buf .entry)) offset ⌝ }
 {
-    unit(integer::write_uint16(buf, offset, val), values)
+    unit(integer_write::write_uint16(buf, offset, val), values)
 }
 
 #[no_mangle]
@@ -42,7 +42,7 @@ pub extern "C" fn mvd_write_int24(
     ensures { λ k. ⌜ Passed (writing (intBytes 3 val) (now (buf .entry)) offset) tt (now (values .entry)) k tt (now (values .exit)) ⌝ }
     ensures { λ _. ⌜ now (buf .exit) ≡ written (intBytes 3 val) (now (buf .entry)) offset ⌝ }
 {
-    unit(integer::write_int24(buf, offset, val), values)
+    unit(integer_write::write_int24(buf, offset, val), values)
 }
 
 #[no_mangle]
@@ -55,7 +55,7 @@ pub extern "C" fn mvd_write_uint24(
     ensures { λ k. ⌜ Passed (writing (bytesOf 3 val) (now (buf .entry)) offset) tt (now (values .entry)) k tt (now (values .exit)) ⌝ }
     ensures { λ _. ⌜ now (buf .exit) ≡ written (bytesOf 3 val) (now (buf .entry)) offset ⌝ }
 {
-    unit(integer::write_uint24(buf, offset, val), values)
+    unit(integer_write::write_uint24(buf, offset, val), values)
 }
 
 #[no_mangle]
@@ -68,7 +68,7 @@ pub extern "C" fn mvd_write_int32(
     ensures { λ k. ⌜ Passed (writing (intBytes 4 val) (now (buf .entry)) offset) tt (now (values .entry)) k tt (now (values .exit)) ⌝ }
     ensures { λ _. ⌜ now (buf .exit) ≡ written (intBytes 4 val) (now (buf .entry)) offset ⌝ }
 {
-    unit(integer::write_int32(buf, offset, val), values)
+    unit(integer_write::write_int32(buf, offset, val), values)
 }
 
 #[no_mangle]
@@ -81,7 +81,7 @@ pub extern "C" fn mvd_write_uint32(
     ensures { λ k. ⌜ Passed (writing (bytesOf 4 val) (now (buf .entry)) offset) tt (now (values .entry)) k tt (now (values .exit)) ⌝ }
     ensures { λ _. ⌜ now (buf .exit) ≡ written (bytesOf 4 val) (now (buf .entry)) offset ⌝ }
 {
-    unit(integer::write_uint32(buf, offset, val), values)
+    unit(integer_write::write_uint32(buf, offset, val), values)
 }
 
 #[no_mangle]
@@ -94,7 +94,7 @@ pub extern "C" fn mvd_write_float40(
     ensures { λ k. ⌜ Passed (writing (bytes40 (bits64 value)) (now (buf .entry)) offset) tt (now (values .entry)) k tt (now (values .exit)) ⌝ }
     ensures { λ _. ⌜ now (buf .exit) ≡ written (bytes40 (bits64 value)) (now (buf .entry)) offset ⌝ }
 {
-    unit(float40::write_float40(buf, offset, value), values)
+    unit(float40_write::write_float40(buf, offset, value), values)
 }
 
 #[no_mangle]
@@ -107,5 +107,5 @@ pub extern "C" fn mvd_write_float40_bits(
     ensures { λ k. ⌜ Passed (writing (bytes40 bits) (now (buf .entry)) offset) tt (now (values .entry)) k tt (now (values .exit)) ⌝ }
     ensures { λ _. ⌜ now (buf .exit) ≡ written (bytes40 bits) (now (buf .entry)) offset ⌝ }
 {
-    unit(float40::write_float40_bits(buf, offset, bits), values)
+    unit(float40_write::write_float40_bits(buf, offset, bits), values)
 }

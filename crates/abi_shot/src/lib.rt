@@ -4,7 +4,7 @@ ghost use mathlib.Core.Path.{_≡_};
 ghost use Prim.Native.Nat.{min};
 ghost use lib.ListN.{length};
 ghost use Rattle.error.specs.Refusal.{yes, onYes};
-ghost use Rattle.integer.specs.Fields.{writing, written};
+ghost use Rattle.integer_write.specs.Writing.{writing, written};
 ghost use Rattle.prc.specs.Points.{prcPoints, clubPoints, pointAnswer, pointSource, prcTold, prcData, prcPointOf, clubPointOf};
 ghost use Rattle.prc.specs.Request.{requestOf};
 ghost use Rattle.text.specs.Trim.{textOf};

@@ -6,9 +6,9 @@ use mathlib.Core.List.{List, [], _∷_, _++_, flatten}
 use native.Mathlib.Omega.{arith}
 use lib.ListN.{length, set, length-append}
 use lib.Seq.{sets}
-use Rattle.integer.specs.Fields.{written}
-use Rattle.integer.proofs.Reading.{writes}
-use Rattle.integer.proofs.Back.{length-written}
+use Rattle.integer_write.specs.Writing.{written}
+use Rattle.integer_write.proofs.Cases.{writes}
+use Rattle.integer_write.proofs.Back.{length-written}
 
 -- each field written behind the one before
 unfoldable pub laid : List (List ℕ) → List ℕ → ℕ → List ℕ

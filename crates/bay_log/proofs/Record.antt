@@ -7,9 +7,10 @@ use native.Mathlib.Omega.{arith}
 use lib.IntN.{ℤ}
 use lib.ListN.{length, set, drop}
 use lib.Seq.{sets, sets-eq}
-use Rattle.integer.specs.Fields.{intAt, bytesOf, intBytes, written}
-use Rattle.integer.proofs.Reading.{writes}
-use Rattle.integer.proofs.Back.{length-written}
+use Rattle.integer.specs.Fields.{intAt}
+use Rattle.integer_write.specs.Writing.{bytesOf, intBytes, written}
+use Rattle.integer_write.proofs.Cases.{writes}
+use Rattle.integer_write.proofs.Back.{length-written}
 use Rattle.numbers.specs.Numbers.{wholeOf}
 use Rattle.bay_log.specs.Log.{shownOf, fieldsOf}
 use Rattle.bay_log.proofs.Laid.{laid, laid-is, field}

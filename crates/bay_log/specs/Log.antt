@@ -9,7 +9,7 @@ use lib.Seq.{sets}
 use lib.IntN.{ℤ, pos}
 use lib.Signed.{quotZ}
 use Rattle.error.specs.Refusal.{Told, yes, no}
-use Rattle.integer.specs.Fields.{bytesOf, intBytes}
+use Rattle.integer_write.specs.Writing.{bytesOf, intBytes}
 use Rattle.numbers.specs.declared.Message.the-variants.{FlightResult}
 use Rattle.numbers.specs.Numbers.{wholeOf}
 

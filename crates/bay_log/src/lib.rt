@@ -2,14 +2,15 @@
 // The record fills the front of the lent buffer and the rest keeps its bytes; a refusal writes nothing.
 ghost use mathlib.Core.Path.{_≡_};
 ghost use Rattle.error.specs.Result.{toldUnit};
-ghost use Rattle.integer.specs.Fields.{intAt, intBytes, written};
+ghost use Rattle.integer.specs.Fields.{intAt};
+ghost use Rattle.integer_write.specs.Writing.{intBytes, written};
 ghost use Rattle.bay_log.specs.Log.{shownOf, logRule};
 use error::ResultUnit;
 use error::WireError;
 use integer::int24_at;
-use integer::write_int24;
-use integer::write_int32;
-use integer::write_uint32;
+use integer_write::write_int24;
+use integer_write::write_int32;
+use integer_write::write_uint32;
 
 // Places in the buffer are the record's, places in the payload D4's.
 pub fn write_record(buf: &mut [u8], event: u32, payload: &[u8]) -> ResultUnit

@@ -48,13 +48,13 @@ pub(crate) fn signed(n: i32) {
 // The 32 bits of a number, as INT32 puts them: a cast would ask that it is not negative.
 fn bits_of(n: i32) -> u32 {
     let mut word = [0u8; 4];
-    integer::write_int32(&mut word, 0, n);
+    integer_write::write_int32(&mut word, 0, n);
     integer::uint32_at(&word, 0)
 }
 
 pub(crate) fn float(x: f64) {
     io::write_all(STDOUT_FILENO, b" ");
-    io::print_hex(STDOUT_FILENO, float40::bits_of(x), 16);
+    io::print_hex(STDOUT_FILENO, float40_write::bits_of(x), 16);
 }
 
 pub(crate) fn wholes(ns: &[u64]) {

@@ -1,30 +1,30 @@
 // Field codecs for the wire protocol, under the names of codec.rs.
-// The integer fields are proved in `integer`, FLOAT40 in `float40`; nothing is added here.
+// The integer fields are proved in `integer`, `integer_read` and `integer_write`, FLOAT40 in `float40` and `float40_write`; nothing is added here.
 pub use float40::float40_at;
 pub use float40::float40_of;
 pub use float40::read_float40;
-pub use float40::write_float40;
-pub use float40::write_float40_bits;
+pub use float40_write::write_float40;
+pub use float40_write::write_float40_bits;
 pub use integer::byte_at;
 pub use integer::int16_at;
 pub use integer::int24_at;
 pub use integer::int32_at;
 pub use integer::need_at;
-pub use integer::read_int16;
-pub use integer::read_int16_scaled;
-pub use integer::read_int24;
-pub use integer::read_int24_scaled;
-pub use integer::read_int32;
-pub use integer::read_uint16;
-pub use integer::read_uint24;
-pub use integer::read_uint32;
 pub use integer::uint16_at;
 pub use integer::uint24_at;
 pub use integer::uint32_at;
 pub use integer::within;
-pub use integer::write_int16;
-pub use integer::write_int24;
-pub use integer::write_int32;
-pub use integer::write_uint16;
-pub use integer::write_uint24;
-pub use integer::write_uint32;
+pub use integer_read::read_int16;
+pub use integer_read::read_int16_scaled;
+pub use integer_read::read_int24;
+pub use integer_read::read_int24_scaled;
+pub use integer_read::read_int32;
+pub use integer_read::read_uint16;
+pub use integer_read::read_uint24;
+pub use integer_read::read_uint32;
+pub use integer_write::write_int16;
+pub use integer_write::write_int24;
+pub use integer_write::write_int32;
+pub use integer_write::write_uint16;
+pub use integer_write::write_uint24;
+pub use integer_write::write_uint32;

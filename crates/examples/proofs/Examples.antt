@@ -1,7 +1,7 @@
 -- Document 01, 'Frames to prove or run': the wires (a) to (g) and the FLOAT40 fields (h) to (l), one list.
 -- Assumes nothing.
 use Rattle.frame.proofs.Examples.{Frames, examples-frames}
-use Rattle.float40.proofs.Examples.{Float40Examples, examples-float40}
+use Rattle.float40_write.proofs.Examples.{Float40Examples, examples-float40}
 
 pub record Examples : Type 0 where
   -- a b c d e f g

@@ -1,12 +1,7 @@
--- FLOAT40's laws.
+-- The laws of FLOAT40 read.
 pub mod Signed
 pub mod Pow2
-pub mod Apart
-pub mod Means
 pub mod Over
 pub mod Value
 pub mod Part
-pub mod Five
-pub mod Back
-pub mod Examples
 pub mod Unique

@@ -1,4 +1,4 @@
--- Each contract of this crate allows one reply, and a writer's one buffer.
+-- Each contract of this crate allows one reply.
 -- Assumes nothing.
 use Prim.Native.Nat.{ℕ}
 use mathlib.Core.Path.{_≡_}
@@ -6,11 +6,11 @@ use mathlib.Core.List.{List}
 use lib.IntN.{ℤ}
 use lib.Ieee.{Float}
 use Rattle.error.specs.declared.ResultF64.{ResultF64}
-use Rattle.error.specs.declared.ResultUnit.{ResultUnit}
-use Rattle.error.specs.Result.{toldUnit, toldF64}
-use Rattle.integer.specs.Fields.{reading, writing, written}
-use Rattle.integer.proofs.Unique.{one-at, one-read-f64, one-write}
-use Rattle.float40.specs.Float40.{value40, float40At, bytes40}
+use Rattle.error.specs.Result.{toldF64}
+use Rattle.error.proofs.Decides.{one-f64}
+use Rattle.integer.specs.Fields.{reading}
+use Rattle.integer.proofs.Unique.{one-at}
+use Rattle.float40.specs.Float40.{value40, float40At}
 
 pub one-float40-of : (e m : ℤ) {r t : Float} → r ≡ value40 e m → t ≡ value40 e m → r ≡ t
 one-float40-of e m = one-at
@@ -20,11 +20,4 @@ module _ (s : List ℕ) (at : ℕ) where
   one-float40-at = one-at
 
   pub one-read-float40 : {r t : ResultF64} → toldF64 r ≡ reading 7 5 float40At s at → toldF64 t ≡ reading 7 5 float40At s at → r ≡ t
-  one-read-float40 = one-read-f64 7 5 s at float40At
-
-  -- `write_float40_bits`, and `write_float40` with b the bits of its value
-  pub one-write-float40 : (b : ℕ) {r t : ResultUnit} {c d : List ℕ}
-      → (toldUnit r ≡ writing (bytes40 b) s at) × (c ≡ written (bytes40 b) s at)
-      → (toldUnit t ≡ writing (bytes40 b) s at) × (d ≡ written (bytes40 b) s at)
-      → (r ≡ t) × (c ≡ d)
-  one-write-float40 b = one-write (bytes40 b) s at
+  one-read-float40 = one-f64

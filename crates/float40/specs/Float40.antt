@@ -1,15 +1,13 @@
 -- Document 01, 'Fields', FLOAT40: exponent e (INT16), then mantissa m (INT24).
--- Reading is one product with a made power of two; writing takes a binary64's 64 bits apart.
-use Prim.Native.Nat.{ℕ, _+_, _/_, _%_, _^_}
+-- Reading is one product with a made power of two.
+use Prim.Native.Nat.{ℕ, _+_}
 use mathlib.Core.Bool.{Bool, true, false, cond}
-use mathlib.Core.List.{List, _++_}
-use lib.Dec.{eqb, leb}
-use lib.IntN.{ℤ, pos, negsuc, natAbs, negℤ, _-ℤ_}
+use mathlib.Core.List.{List}
+use lib.Dec.{eqb}
+use lib.IntN.{ℤ, pos, negsuc, natAbs, _-ℤ_}
 use lib.Signed.{ltZ}
-use lib.Ieee.{Float, fin, inf, binary64, minus, mul, ofInt, toBits}
-use Rattle.integer.specs.Fields.{intAt, intBytes}
-
--- ---- reading
+use lib.Ieee.{Float, fin, inf, binary64, mul, ofInt}
+use Rattle.integer.specs.Fields.{intAt}
 
 -- +0.0
 abbrev pub zeroF : Float
@@ -29,53 +27,7 @@ unfoldable pub float40At : List ℕ → ℕ → Float
 unfolding intAt value40
 float40At s at = value40 (intAt 2 s at) (intAt 3 s (at + 2))
 
--- ---- writing: the 64 bits are a sign, 11 bits of exponent field and 52 of fraction
-
-abbrev pub signOf : ℕ → Bool
-signOf b = leb (2 ^ 63) b
-
-abbrev pub fieldOf : ℕ → ℕ
-fieldOf b = b / 2 ^ 52 % 2 ^ 11
-
-abbrev pub fractionOf : ℕ → ℕ
-fractionOf b = b % 2 ^ 52
-
--- both zeros: no bit but the sign
-abbrev pub isZero : ℕ → Bool
-isZero b = eqb (b % 2 ^ 63) 0
-
--- |m|: 2 ^ 52 + fraction, divided by 2 ^ 30, rounded down
-unfoldable pub sizeOf : ℕ → ℕ
-sizeOf b = (2 ^ 52 + fractionOf b) / 2 ^ 30
-
--- n, with a sign
-abbrev pub withSign : Bool → ℕ → ℤ
-withSign s n = cond s (negℤ (pos n)) (pos n)
-
--- e and m of the bits: 0 and 0 of both zeros, else the exponent field less 1022, and |m| with the sign
-unfoldable pub exp40 : ℕ → ℤ
-exp40 b = cond (isZero b) (pos 0) (minus (fieldOf b) 1022)
-
-unfoldable pub man40 : ℕ → ℤ
-unfolding sizeOf
-man40 b = cond (isZero b) (pos 0) (withSign (signOf b) (sizeOf b))
-
--- the five bytes of the bits
-unfoldable pub bytes40 : ℕ → List ℕ
-unfolding exp40 man40 intBytes
-bytes40 b = intBytes 2 (exp40 b) ++ intBytes 3 (man40 b)
-
--- the bits of a float; a NaN counts as 7FF8_0000_0000_0000
-abbrev pub bits64 : Float → ℕ
-bits64 x = toBits binary64 x
-
--- ---- for the theorems
-
--- a number below 0: the sign of its float
+-- for the theorems: the sign of a number's float, true below 0
 abbrev pub negative : ℤ → Bool
 negative (pos n) = false
 negative (negsuc n) = true
-
--- what the five bytes of the bits read as
-abbrev pub readBack : ℕ → Float
-readBack b = value40 (exp40 b) (man40 b)

@@ -1,2 +1,2 @@
--- What the contracts of the FLOAT40 reader and writer cite.
+-- What the contracts of every FLOAT40 reader cite.
 pub mod Float40

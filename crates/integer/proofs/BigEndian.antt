@@ -25,7 +25,8 @@ be-more i s at = rw add-one
 pub be-lt : (k : ℕ) (s : List ℕ) (at : ℕ) → ((i : ℕ) → getD s i 0 < 256) → beAt k s at < 2 ^ (8 * k)
 unfolding beAt
 be-lt zero s at h = omega arith
-be-lt (suc k) s at h = subst (λ (j : ℕ). beAt (suc k) s at < 2 ^ (8 * j)) (add-one k) (more-lt k (beAt k s at) (getD s (at + k) 0) (be-lt k s at h) (h (at + k)))
+be-lt (suc k) s at h =
+    subst (λ (j : ℕ). beAt (suc k) s at < 2 ^ (8 * j)) (add-one k) (more-lt k (beAt k s at) (getD s (at + k) 0) (be-lt k s at h) (h (at + k)))
 
 -- a number of fewer than j bytes is below that of j
 pub small : (j : ℕ) {i n : ℕ} → n < 2 ^ (8 * i) → i ≤ j → n < 2 ^ (8 * j)

@@ -1,2 +1,2 @@
--- What the contracts of every field reader and writer cite.
+-- What the contracts of every reader of a field cite.
 pub mod Fields

@@ -8,7 +8,7 @@ use lib.ListN.{length, set}
 use lib.Seq.{sets, length-sets}
 use mir.Syntax.{w32}
 use Rattle.error.specs.Refusal.{yes}
-use Rattle.integer.specs.Fields.{intBytes, written}
+use Rattle.integer_write.specs.Writing.{intBytes, written}
 use Rattle.layout.proofs.Held.{held}
 use Rattle.bay_log.specs.Log.{fieldsOf, logRule}
 use Rattle.bay_log.proofs.Record.{record-laid}

@@ -3,7 +3,7 @@ use borrow.Author.Needs.{needs}
 use mathlib.Core.Path.{_∙_, ap}
 use lib.IntN.{ℤ}
 use mir.Syntax.{w32}
-use Rattle.integer.specs.Fields.{intBytes, written}
+use Rattle.integer_write.specs.Writing.{intBytes, written}
 use Rattle.layout.proofs.Held.{held}
 use Rattle.bay_log.specs.Log.{shownOf}
 use Rattle.bay_log.proofs.write_shown.Statement.{statement}

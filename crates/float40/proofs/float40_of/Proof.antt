@@ -8,8 +8,8 @@ use mir.Syntax.{w16, w32}
 use mir.Val.{SFits}
 use mir.ValLaws.{toZ-ofZ}
 use borrow.Author.Tests.{eq-eqb, ne-eqb}
+use Rattle.integer.proofs.Casts.{cast-fits, kept}
 use Rattle.float40.specs.Float40.{pow2, value40}
-use Rattle.integer.proofs.Bias.{cast-fits, kept}
 use Rattle.float40.proofs.Signed.{mag-less, zero-abs, abs-zero}
 use Rattle.float40.proofs.float40_of.Statement.{statement}
 use Rattle.float40.proofs.float40_of.Tie as tie

@@ -32,7 +32,8 @@ cast-n : tie.Need-cast-n Inv-loop μ-loop
 cast-n c = omega (arith, c .shared-slice-known .given (c .before .before .before .args .offset + c .before .before .loop .i))
 
 add-n-2 : tie.Need-add-n-2 Inv-loop μ-loop
-add-n-2 c = omega (arith, small 3 (c .before .before .loop .inv .2) (omega arith), c .shared-slice-known .given (c .before .before .before .args .offset + c .before .before .loop .i))
+add-n-2 c =
+    omega (arith, small 3 (c .before .before .loop .inv .2) (omega arith), c .shared-slice-known .given (c .before .before .before .args .offset + c .before .before .loop .i))
 
 add-i : tie.Need-add-i Inv-loop μ-loop
 add-i c = omega arith

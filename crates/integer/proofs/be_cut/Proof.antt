@@ -15,8 +15,11 @@ returns : tie.Need-returns
 unfolding beAt
 returns c =
     let a = c .before .before .args in
-    let e : 0 + a .k ≡ a .k = omega arith in
-    (sym (ap (λ (j : ℕ). beAt j (a .«data» .now) (a .offset)) (sym e) ∙ be-zeros 0 (a .k) (a .«data» .now) (a .offset) (omega arith) ∙ omega arith), pow-pos (8 * a .k))
+    let e : 0 + a .k ≡ a .k = omega arith in (
+      sym (ap (λ (j : ℕ). beAt j (a .«data» .now) (a .offset)) (sym e)
+          ∙ be-zeros 0 (a .k) (a .«data» .now) (a .offset) (omega arith) ∙ omega arith),
+      pow-pos (8 * a .k),
+    )
 
 sub-there : tie.Need-sub-there
 sub-there c = search needs
@@ -44,7 +47,8 @@ returns-2 c =
     let e : m + (a .k - m) ≡ a .k = omega arith in
     let g = be-lt (a .k) s (a .offset) (λ i. c .before .before .shared-slice-known .given i .fits) in
     let v : c .be .result * 2 ^ (8 * (a .k - m)) ≡ beAt (a .k) s (a .offset) =
-    ap (λ (n : ℕ). n * 2 ^ (8 * (a .k - m))) (c .be .ensures .0) ∙ sym (be-zeros m (a .k - m) s (a .offset) (omega arith)) ∙ ap (λ (j : ℕ). beAt j s (a .offset)) e in
+    ap (λ (n : ℕ). n * 2 ^ (8 * (a .k - m))) (c .be .ensures .0)
+    ∙ sym (be-zeros m (a .k - m) s (a .offset) (omega arith)) ∙ ap (λ (j : ℕ). beAt j s (a .offset)) e in
     let w : c .be .result * 2 ^ (8 * (a .k - m)) % 4294967296 ≡ beAt (a .k) s (a .offset) =
     ap (λ (n : ℕ). n % 4294967296) v ∙ mod-eq-of-lt (small 4 g (omega arith)) in
     (w, subst (λ (n : ℕ). n < 2 ^ (8 * a .k)) (sym w) g)

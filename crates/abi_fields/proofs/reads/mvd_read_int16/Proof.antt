@@ -1,4 +1,4 @@
--- `mvd_read_int16` meets its contract: it tells what `integer::read_int16` tells.
+-- `mvd_read_int16` meets its contract: it tells what `integer_read::read_int16` tells.
 -- Assumes nothing.
 use borrow.Author.Needs.{needs}
 use mathlib.Core.Path.{sym, ap, _∙_}

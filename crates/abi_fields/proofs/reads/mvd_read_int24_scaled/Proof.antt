@@ -1,4 +1,4 @@
--- `mvd_read_int24_scaled` meets its contract: it tells what `integer::read_int24_scaled` tells.
+-- `mvd_read_int24_scaled` meets its contract: it tells what `integer_read::read_int24_scaled` tells.
 -- Assumes nothing.
 use borrow.Author.Needs.{needs}
 use mathlib.Core.Path.{sym, ap, _∙_}

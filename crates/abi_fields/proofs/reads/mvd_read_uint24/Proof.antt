@@ -1,4 +1,4 @@
--- `mvd_read_uint24` meets its contract: it tells what `integer::read_uint24` tells.
+-- `mvd_read_uint24` meets its contract: it tells what `integer_read::read_uint24` tells.
 -- Assumes nothing.
 use borrow.Author.Needs.{needs}
 use mathlib.Core.Path.{sym, ap, _∙_}

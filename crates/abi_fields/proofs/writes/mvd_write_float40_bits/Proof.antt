@@ -1,4 +1,4 @@
--- `mvd_write_float40_bits` meets its contract: it tells and writes what `float40::write_float40_bits` does.
+-- `mvd_write_float40_bits` meets its contract: it tells and writes what `float40_write::write_float40_bits` does.
 -- Assumes nothing.
 use borrow.Author.Needs.{needs}
 use Rattle.abi.proofs.Passing.{passed-as}

@@ -1,4 +1,4 @@
--- `mvd_write_int16` meets its contract: it tells and writes what `integer::write_int16` does.
+-- `mvd_write_int16` meets its contract: it tells and writes what `integer_write::write_int16` does.
 -- Assumes nothing.
 use borrow.Author.Needs.{needs}
 use mir.Syntax.{w16}

@@ -1,4 +1,4 @@
--- `mvd_write_int32` meets its contract: it tells and writes what `integer::write_int32` does.
+-- `mvd_write_int32` meets its contract: it tells and writes what `integer_write::write_int32` does.
 -- Assumes nothing.
 use borrow.Author.Needs.{needs}
 use mir.Syntax.{w32}

@@ -1,4 +1,4 @@
--- `mvd_write_uint32` meets its contract: it tells and writes what `integer::write_uint32` does.
+-- `mvd_write_uint32` meets its contract: it tells and writes what `integer_write::write_uint32` does.
 -- Assumes nothing.
 use borrow.Author.Needs.{needs}
 use Rattle.abi.proofs.Passing.{passed-as}

@@ -1,0 +1,7 @@
+-- The laws of FLOAT40 written, and read back.
+pub mod Apart
+pub mod Means
+pub mod Five
+pub mod Back
+pub mod Examples
+pub mod Unique

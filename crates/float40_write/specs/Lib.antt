@@ -1,0 +1,2 @@
+-- What the contracts of every FLOAT40 writer cite.
+pub mod Writing

@@ -1,0 +1,8 @@
+-- The laws of integer fields written, and read back, each once over the width.
+pub mod Bits
+pub mod Bytes
+pub mod Bias
+pub mod Stores
+pub mod Cases
+pub mod Back
+pub mod Unique

@@ -1,0 +1,2 @@
+-- What the contracts of every writer of a field cite.
+pub mod Writing
