@@ -1,4 +1,4 @@
--- Laws of specs/Feed and specs/View that the proofs cite: places that are found, a frame that is kept, the cases of `feedRule`.
+-- Laws of specs/Feed that the proofs cite: a frame that is kept, the cases of `feedRule`.
 -- Assumes nothing.
 use mathlib.Core.Path.{_≡_, refl, sym, ap, _∙_}
 use mathlib.Core.Bool.{Bool, true, false, cond, not, _&&_, _||_}
@@ -12,24 +12,9 @@ use lib.Seq.{drop-cons, drop-length, take-length, paste}
 use borrow.Author.Tests.{eq-eqb, ne-eqb, le-leb, lt-leb, lt-ltb, le-ltb, ltb-false, leb-true}
 use Rattle.error.specs.Refusal.{no}
 use Rattle.error.proofs.Cases.{by-test}
+use Rattle.search.specs.First.{firstFrom}
 use Rattle.splitter.specs.declared.FrameSplitter.{FrameSplitter}
-use Rattle.splitter.specs.Feed.{indexOf, firstFrom, laid, total, isBad, isKept, startIn, given, ends, goesOn, runs, feedRule}
-use Rattle.splitter.specs.View.{partOrNone}
-
--- b is at i
-pub first-hit : (b i : ℕ) (l : List ℕ) → i < length l → getD l i 0 ≡ b → firstFrom b i l ≡ i
-unfolding indexOf
-first-hit b i l h e = rw (drop-cons l i 0 h, eq-eqb _ _ e) (omega arith)
-
--- b is not at i
-pub first-miss : (b i : ℕ) (l : List ℕ) → i < length l → (getD l i 0 ≡ b → ⊥) → firstFrom b i l ≡ firstFrom b (i + 1) l
-unfolding indexOf
-first-miss b i l h n = rw (drop-cons l i 0 h, ne-eqb _ _ n, add-one i) (omega arith)
-
--- past the end
-pub first-end : (b i : ℕ) (l : List ℕ) → i ≡ length l → firstFrom b i l ≡ i
-unfolding indexOf
-first-end b i l e = rw (e, drop-length) (omega arith)
+use Rattle.splitter.specs.Feed.{laid, total, isBad, isKept, startIn, given, ends, goesOn, runs, feedRule}
 
 -- a whole list that is pasted
 pub paste-all : (d : List ℕ) (at : ℕ) (s : List ℕ) (i : ℕ) → i ≡ length s → paste d at s i ≡ laid d at s
@@ -53,16 +38,6 @@ pub kept-is : (s : FrameSplitter) (H n : ℕ) → isKept s H n ≡ true → (s .
 kept-is s H n e =
     let k = both (s .skipping) (leb (total s n) H) e in
     (k .0, leb-true (total s n) H (k .1))
-
--- ---- the view
-
-pub part-fits : (l : List ℕ) (i n : ℕ) → i + n ≤ length l → take (i + n - i) (drop i l) ≡ partOrNone l i n
-part-fits l i n h =
-    let e : i + n - i ≡ n = omega arith in
-    rw (e, le-leb _ _ h)
-
-pub part-none : (l : List ℕ) (i n : ℕ) → length l < i + n → [] ≡ partOrNone l i n
-part-none l i n h = rw (lt-leb _ _ h)
 
 -- ---- feed
 

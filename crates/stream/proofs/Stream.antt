@@ -9,11 +9,11 @@ use lib.Dec.{leb}
 use lib.ListN.{length, take, drop, length-take, take-append-drop}
 use lib.Seq.{take-take, length-take-le}
 use borrow.Author.Tests.{le-leb, lt-leb}
 use Rattle.splitter.specs.declared.FrameSplitter.{FrameSplitter}
 use Rattle.splitter.specs.Feed.{new, toldEvent, shown}
-use Rattle.splitter.specs.Stream.{Said, More, Overlong, Frame, Refused, saidOf, Call, Calls, done, next, takenBy, unlessMore, answers, atLast, heard, Alike}
-use Rattle.splitter.proofs.Line.{opened, hear, silence, hear-append, opened-append}
-use Rattle.splitter.proofs.Calls.{Stands, fits, long, stands-fresh, Agrees, one-call}
+use Rattle.stream.specs.Stream.{Said, More, Overlong, Frame, Refused, saidOf, Call, Calls, done, next, takenBy, unlessMore, answers, atLast, heard, Alike}
+use Rattle.stream.proofs.Line.{opened, hear, silence, hear-append, opened-append}
+use Rattle.stream.proofs.Calls.{Stands, fits, long, stands-fresh, Agrees, one-call}
 
 -- ---- the calls beside the line
 

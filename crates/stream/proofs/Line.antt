@@ -9,8 +9,8 @@ use native.Mathlib.Numerals.{add-one}
 use lib.Dec.{eqb}
 use lib.ListN.{length, take, replicate, replicate-append-replicate}
 use Rattle.error.proofs.Cases.{by-test}
-use Rattle.splitter.specs.Feed.{indexOf}
-use Rattle.splitter.specs.Stream.{Said, More, atLast, answerTo}
+use Rattle.search.specs.First.{indexOf}
+use Rattle.stream.specs.Stream.{Said, More, atLast, answerTo}
 
 -- the open frame after one more byte
 abbrev pub after : List ℕ → ℕ → List ℕ

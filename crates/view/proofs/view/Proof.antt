@@ -5,10 +5,10 @@ use Prim.Native.Nat.{_+_, _<_, _≤_}
 use native.Mathlib.Omega.{arith}
 use lib.ListN.{length}
 use borrow.Author.Tests.{le-leb, lt-leb}
-use Rattle.splitter.proofs.Laws.{part-fits, part-none}
+use Rattle.view.proofs.Laws.{part-fits, part-none}
 use borrow.Author.Needs.{needs}
-use Rattle.splitter.proofs.view.Statement.{statement}
-use Rattle.splitter.proofs.view.Tie as tie
+use Rattle.view.proofs.view.Statement.{statement}
+use Rattle.view.proofs.view.Tie as tie
 
 sub-if3 : tie.Need-sub-if3
 sub-if3 c = search needs

@@ -4,9 +4,9 @@ use mathlib.Core.Path.{_≡_, refl, _∙_}
 use Prim.Native.Nat.{_-_, _≤_}
 use native.Mathlib.Omega.{arith}
 use lib.ListN.{length}
-use Rattle.splitter.specs.Feed.{firstFrom}
-use Rattle.splitter.proofs.skip.Statement.{statement}
-use Rattle.splitter.proofs.skip.Tie as tie
+use Rattle.search.specs.First.{firstFrom}
+use Rattle.search.proofs.skip.Statement.{statement}
+use Rattle.search.proofs.skip.Tie as tie
 
 abbrev Inv-loop : tie.InvT-loop
 Inv-loop a from b i₀ i = (i ≤ length a) × (firstFrom b from a ≡ firstFrom b i a)
@@ -24,7 +24,7 @@ has-requires : tie.Need-has-requires Inv-loop μ-loop
 has-requires c κs = omega arith
 
 returns : tie.Need-returns Inv-loop μ-loop
-returns c = (c .before .before .before .loop .inv .1, omega arith)
+returns c = c .before .before .before .loop .inv .1
 
 add-i : tie.Need-add-i Inv-loop μ-loop
 add-i c = omega arith
@@ -36,7 +36,7 @@ loop-again : tie.Need-loop-again Inv-loop μ-loop
 loop-again c = (omega arith, c .before .before .before .loop .inv .1 ∙ c .before .has .ensures (c .if1 .left))
 
 returns-2 : tie.Need-returns-2 Inv-loop μ-loop
-returns-2 c = (c .before .loop .inv .1, omega arith)
+returns-2 c = c .before .loop .inv .1
 
 pub skip-spec : {M : Type 1} → statement M
 skip-spec = tie.close (tie.spec Inv-loop μ-loop loop-holds sub-loop has-requires returns add-i loop-less loop-again returns-2)

@@ -9,14 +9,14 @@ use denote.Ref.{RefT}
 use denote.Triple.Clauses.{AtExit}
 use borrow.Fn.Kinds.{Dens, endedOf}
 use Rattle.error.specs.Refusal.{yes}
 use Rattle.splitter.specs.declared.FrameSplitter.{FrameSplitter}
 use Rattle.splitter.specs.declared.Fed.{Fed}
 use Rattle.splitter.specs.Feed.{frame, toldEvent, feedRule}
-use Rattle.splitter.specs.Stream.{Frame, saidOf, Call, call, Calls, next}
+use Rattle.stream.specs.Stream.{Frame, saidOf, Call, call, Calls, next}
 use Rattle.splitter.proofs.FrameSplitter.feed.Kinds as feed-kinds
 use Rattle.splitter.proofs.FrameSplitter.feed.Reads as feed
-use Rattle.splitter.proofs.view.Kinds as view-kinds
-use Rattle.splitter.proofs.view.Reads as view
+use Rattle.view.proofs.view.Kinds as view-kinds
+use Rattle.view.proofs.view.Reads as view
 
 -- A call of `feed` with the arguments a (the splitter, the hold buffer, the chunk), its reply r and the arguments x at exit: offered the
 -- next n bytes of the stream b, it is the next call of a trace.

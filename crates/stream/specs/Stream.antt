@@ -7,10 +7,10 @@ use mathlib.Core.List.{List, [], _∷_, _++_}
 use lib.ListN.{length, take, drop, replicate}
 use lib.Dec.{leb}
 use Rattle.error.specs.Refusal.{Told, yes, no}
 use Rattle.splitter.specs.declared.FrameSplitter.{FrameSplitter}
 use Rattle.splitter.specs.declared.Fed.{Fed}
 use Rattle.splitter.specs.Feed.{Answer, more, overlong, frame, toldEvent, shown, feedRule}
-use Rattle.splitter.specs.View.{viewRule}
+use Rattle.view.specs.View.{viewRule}
 
 -- an answer as the caller has it: a frame with the bytes that `view` shows, a refusal by its number and values
 pub data Said : Type 0 where

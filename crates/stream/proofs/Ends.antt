@@ -15,15 +15,16 @@ use Rattle.error.specs.declared.WireError.{WireError}
 use Rattle.error.specs.declared.WireError.the-variants.{BadState}
 use Rattle.error.proofs.Cases.{by-test}
 use Rattle.error.proofs.Decides.{there}
 use Rattle.splitter.specs.declared.FrameSplitter.{FrameSplitter}
 use Rattle.splitter.specs.declared.Fed.{Fed}
 use Rattle.splitter.specs.declared.Event.the-variants.{Err}
-use Rattle.splitter.specs.Feed.{Given, Answer, given, more, toldEvent, shown, isBad, isOpen, isKept, indexOf, firstFrom, startIn, laid, ends, goesOn, runs, feedRule}
-use Rattle.splitter.specs.Stream.{Call, Calls, Feeds, joined}
-use Rattle.splitter.specs.Stream as stream
+use Rattle.search.specs.First.{indexOf, firstFrom}
+use Rattle.splitter.specs.Feed.{Given, Answer, given, more, toldEvent, shown, isBad, isOpen, isKept, startIn, laid, ends, goesOn, runs, feedRule}
+use Rattle.stream.specs.Stream.{Call, Calls, Feeds, joined}
+use Rattle.stream.specs.Stream as stream
 use Rattle.splitter.proofs.Laws.{not-bad, feed-bad, feed-goes-on}
-use Rattle.splitter.proofs.Calls.{Stands, fits, long, stands-good, Agrees, one-call}
+use Rattle.stream.proofs.Calls.{Stands, fits, long, stands-good, Agrees, one-call}
 use Rattle.splitter.proofs.One.{eventOf, fedOf}
 
 -- ---- a state that is not refused stands for some open bytes
 

@@ -11,11 +11,13 @@ use lib.ListN.{length, take, drop, length-append, length-take, length-drop, take
 use lib.Seq.{take-add, take-all, take-at, take-length}
 use borrow.Author.Tests.{ne-eqb, eqb-true, le-leb, lt-leb, leb-true, leb-false, le-ltb}
 use Rattle.error.proofs.Cases.{by-test, by-lt}
 use Rattle.splitter.specs.declared.FrameSplitter.{FrameSplitter}
-use Rattle.splitter.specs.Feed.{Given, fresh, isBad, indexOf, startIn, part, laid, total, ends, goesOn, feedRule}
-use Rattle.splitter.specs.Stream.{Said, More, saidOf, atLast, answerTo}
+use Rattle.search.specs.First.{indexOf}
+use Rattle.search.proofs.First.{found, index-le}
+use Rattle.splitter.specs.Feed.{Given, fresh, isBad, startIn, part, laid, total, ends, goesOn, feedRule}
+use Rattle.stream.specs.Stream.{Said, More, saidOf, atLast, answerTo}
 use Rattle.splitter.proofs.Laws.{feed-ends, feed-goes-on}
-use Rattle.splitter.proofs.Line.{opened, hear, silence, hear-append, opened-append, at-last-add, silent, dropped, goes-on, closes, opens-goes-on, opens-closes}
+use Rattle.stream.proofs.Line.{opened, hear, silence, hear-append, opened-append, at-last-add, silent, dropped, goes-on, closes, opens-goes-on, opens-closes}
 
 -- the state s and the hold buffer h stand for the open bytes w: they are at the hold's front, or there are more than it has room for
 pub data Stands (s : FrameSplitter) (h w : List ℕ) : Type 0 where
@@ -29,22 +31,6 @@ stands-fresh s h = fits zero-le refl refl refl
 pub stands-good : {s : FrameSplitter} {h w : List ℕ} → Stands s h w → isBad s (length h) ≡ false
 stands-good (fits l n m k) = rw (n, m, le-ltb _ _ l)
 stands-good {s} {h} (long l n m) = rw (n, m, le-ltb (length h) 0 zero-le)
-
--- what stands at an index that was found
-pub found : (b : ℕ) (c : List ℕ) → indexOf b c < length c → drop (indexOf b c) c ≡ b ∷ drop (suc (indexOf b c)) c
-unfolding indexOf
-found b [] l = absurd (not-suc-le-zero l)
-found b (x ∷ c) l =
-    by-test (eqb x b)
-    (λ e. rw (e, eqb-true x b e))
-    (λ e.
-    let m : indexOf b c < length c = omega (arith, rw e at l) in
-    rw (e, found b c m))
-
-pub index-le : (b : ℕ) (c : List ℕ) → indexOf b c ≤ length c
-unfolding indexOf
-index-le b [] = zero-le
-index-le b (x ∷ c) = by-test (eqb x b) (λ e. rw e zero-le) (λ e. rw e (suc-le-suc (index-le b c)))
 
 -- ---- the line over a chunk, from where the frame's bytes start
 

@@ -12,13 +12,15 @@ use lib.ListN.{length, take, drop, length-drop, drop-of-length-le, take-append-d
 use lib.Seq.{drop-drop}
 use borrow.Author.Tests.{eqb-true, lt-ltb, le-ltb}
 use Rattle.error.proofs.Cases.{by-test, by-lt}
 use Rattle.splitter.specs.declared.FrameSplitter.{FrameSplitter}
-use Rattle.splitter.specs.Feed.{indexOf, new}
-use Rattle.splitter.specs.Rust.{Rust, left, push, turn, turns, rustFeed, rustFrames}
-use Rattle.splitter.specs.Stream.{Call, Calls, joined, unlessMore, answers, atLast, answerTo}
-use Rattle.splitter.proofs.Line.{after, opened, hear, hear-append, opened-append}
-use Rattle.splitter.proofs.Calls.{stands-fresh, found, Closed, Unclosed, closes-at, goes-at}
-use Rattle.splitter.proofs.Stream.{follows, spoken, spoken-append, spoken-silence, spoken-last, answers-heard}
+use Rattle.search.specs.First.{indexOf}
+use Rattle.search.proofs.First.{found}
+use Rattle.splitter.specs.Feed.{new}
+use Rattle.stream.specs.Rust.{Rust, left, push, turn, turns, rustFeed, rustFrames}
+use Rattle.stream.specs.Stream.{Call, Calls, joined, unlessMore, answers, atLast, answerTo}
+use Rattle.stream.proofs.Line.{after, opened, hear, hear-append, opened-append}
+use Rattle.stream.proofs.Calls.{stands-fresh, Closed, Unclosed, closes-at, goes-at}
+use Rattle.stream.proofs.Stream.{follows, spoken, spoken-append, spoken-silence, spoken-last, answers-heard}
 
 -- ---- one turn of the loop
 

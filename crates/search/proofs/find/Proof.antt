@@ -1,22 +1,22 @@
 -- `find` meets its contract. The loop's invariant: what is sought from `from` on is what is sought from i on.
 -- Assumes nothing.
 use mathlib.Core.Path.{_≡_, refl, sym, _∙_}
-use Prim.Native.Nat.{_-_, _≤_}
+use Prim.Native.Nat.{_-_}
 use native.Mathlib.Omega.{arith}
 use lib.ListN.{length}
-use Rattle.splitter.specs.Feed.{firstFrom}
-use Rattle.splitter.proofs.Laws.{first-hit, first-miss, first-end}
-use Rattle.splitter.proofs.find.Statement.{statement}
-use Rattle.splitter.proofs.find.Tie as tie
+use Rattle.search.specs.First.{firstFrom}
+use Rattle.search.proofs.First.{first-hit, first-miss, first-end}
+use Rattle.search.proofs.find.Statement.{statement}
+use Rattle.search.proofs.find.Tie as tie
 
 abbrev Inv-loop : tie.InvT-loop
-Inv-loop a from b i₀ i = (i ≤ length a) × (firstFrom b from a ≡ firstFrom b i a)
+Inv-loop a from b i₀ i = firstFrom b from a ≡ firstFrom b i a
 
 abbrev μ-loop : tie.MeasureT-loop
 μ-loop a from b i₀ i = length a - i
 
 loop-holds : tie.Need-loop-holds Inv-loop μ-loop
-loop-holds c = (c .pre, refl)
+loop-holds c = refl
 
 shared-slice-read-if1 : tie.Need-shared-slice-read-if1 Inv-loop μ-loop
 shared-slice-read-if1 c = omega arith
@@ -24,7 +24,7 @@ shared-slice-read-if1 c = omega arith
 returns : tie.Need-returns Inv-loop μ-loop
 returns c =
     let t = c .before .before in
-    (sym (t .before .loop .inv .1 ∙ first-hit _ _ _ (t .loop-test .taken) (c .if1 .taken)), omega arith)
+    sym (t .before .loop .inv ∙ first-hit _ _ _ (t .loop-test .taken) (c .if1 .taken))
 
 add-i : tie.Need-add-i Inv-loop μ-loop
 add-i c = omega arith
@@ -35,10 +35,10 @@ loop-less c = omega arith
 loop-again : tie.Need-loop-again Inv-loop μ-loop
 loop-again c =
     let t = c .before .before in
-    (omega arith, t .before .loop .inv .1 ∙ first-miss _ _ _ (t .loop-test .taken) (c .if1 .left))
+    t .before .loop .inv ∙ first-miss _ _ _ (t .loop-test .taken) (c .if1 .left)
 
 returns-2 : tie.Need-returns-2 Inv-loop μ-loop
-returns-2 c = (sym (c .before .loop .inv .1 ∙ first-end _ _ _ (omega arith)), omega arith)
+returns-2 c = sym (c .before .loop .inv ∙ first-end _ _ _ (c .loop-test .left))
 
 pub find-spec : {M : Type 1} → statement M
 find-spec =

@@ -5,7 +5,7 @@ use mathlib.Core.Bool.{cond}
 use mathlib.Core.List.{List, [], _∷_, _++_}
 use lib.ListN.{length, take, drop}
 use lib.Dec.{ltb}
-use Rattle.splitter.specs.Feed.{indexOf}
+use Rattle.search.specs.First.{indexOf}
 
 pub record Rust : Type 0 where
   pub frames : List (List ℕ)

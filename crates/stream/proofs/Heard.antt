@@ -5,9 +5,9 @@ use mathlib.Core.List.{List, [], _∷_, _++_, append-assoc}
 use Prim.Native.Nat.{ℕ, zero, suc, _+_, _<_}
 use native.Mathlib.Omega.{arith}
 use lib.ListN.{length, length-append}
-use Rattle.splitter.specs.Stream.{Said, More, Call, call, takenBy, unlessMore, answers, atLast, heard}
-use Rattle.splitter.proofs.Line.{silence}
-use Rattle.splitter.proofs.Stream.{Plain, spoken}
+use Rattle.stream.specs.Stream.{Said, More, Call, call, takenBy, unlessMore, answers, atLast, heard}
+use Rattle.stream.proofs.Line.{silence}
+use Rattle.stream.proofs.Stream.{Plain, spoken}
 
 -- an answer s behind m bytes of silence, in a list where a stands behind x: it is that answer, or it stands before it, or a is More
 data Where (m : ℕ) (s : Said) (u x : List Said) (a : Said) (y : List Said) : Type 0 where

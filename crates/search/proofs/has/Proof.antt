@@ -6,10 +6,10 @@ use mathlib.Core.Logic.{⊎-elim}
 use Prim.Native.Nat.{ℕ, _+_, _-_, _≤_}
 use native.Mathlib.Omega.{arith}
 use native.Mathlib.Nat.{add-zero}
-use Rattle.splitter.specs.Feed.{firstFrom}
-use Rattle.splitter.proofs.Laws.{first-miss}
-use Rattle.splitter.proofs.has.Statement.{statement}
-use Rattle.splitter.proofs.has.Tie as tie
+use Rattle.search.specs.First.{firstFrom}
+use Rattle.search.proofs.First.{first-miss}
+use Rattle.search.proofs.has.Statement.{statement}
+use Rattle.search.proofs.has.Tie as tie
 
 abbrev Inv-loop : tie.InvT-loop
 Inv-loop a i b hit₀ k₀ hit k = (k ≤ 16) × (hit ≡ false → firstFrom b i a ≡ firstFrom b (i + k) a)
