@@ -1,6 +1,7 @@
 // The splitter: cuts a byte stream that comes in chunks into frames F0 .. F1, one event a call.
 // However the stream is cut, the frames are the Rust's; those longer than the hold buffer are answered Overlong (crate stream).
 ghost use mathlib.Core.Path.{_≡_};
+ghost use mathlib.Core.Bool.{not};
 ghost use Prim.Native.Nat.{_+_, _≤_};
 ghost use lib.ListN.{length};
 ghost use Rattle.splitter.specs.Feed.{new, isBad, isKept, startIn, laid, shown, ends, goesOn, feedRule};
@@ -64,10 +65,9 @@ impl FrameSplitter {
         let from = start(self, chunk);
         let end = find_far(chunk, from, END);
         if end < chunk.len() {
-            closes(self, hold, chunk, from, end + 1)
-        } else {
-            stays(self, hold, chunk, from)
+            return closes(self, hold, chunk, from, end + 1);
         }
+        stays(self, hold, chunk, from)
     }
 }
 
@@ -98,15 +98,15 @@ fn start(s: FrameSplitter, chunk: &[u8]) -> usize
     find(chunk, 0, START)
 }
 
-// Whether the open frame with added more bytes is no longer than the hold buffer.
-fn kept(s: FrameSplitter, room: usize, added: usize) -> bool
+// Whether the open frame with added more bytes is longer than the hold buffer, or has been.
+fn lost(s: FrameSplitter, room: usize, added: usize) -> bool
     requires { ⌜ s .count ≤ room ⌝ }
-    ensures { λ r. ⌜ r ≡ isKept s room added ⌝ }
+    ensures { λ r. ⌜ r ≡ not (isKept s room added) ⌝ }
 {
     if s.skipping {
-        return false;
+        return true;
     }
-    added <= room - s.count
+    room - s.count < added
 }
 
 // The frame ends in the chunk, just before index to.
@@ -116,7 +116,8 @@ fn closes(s: FrameSplitter, hold: &mut [u8], chunk: &[u8], from: usize, to: usiz
     ensures { λ r. ⌜ shown r (now (hold .exit)) ≡ ends s (now (hold .entry)) (now (chunk .entry)) from to ⌝ }
 {
     let count = s.count;
-    if !kept(s, hold.len(), to - from) {
+    let len = to - from;
+    if lost(s, hold.len(), len) {
         return ended(Event::Overlong, to);
     }
     if count == 0 {
@@ -124,7 +125,7 @@ fn closes(s: FrameSplitter, hold: &mut [u8], chunk: &[u8], from: usize, to: usiz
             Event::Frame(Place {
                 in_hold: false,
                 start: from,
-                len: to - from,
+                len,
             }),
             to,
         );
@@ -134,7 +135,7 @@ fn closes(s: FrameSplitter, hold: &mut [u8], chunk: &[u8], from: usize, to: usiz
         Event::Frame(Place {
             in_hold: true,
             start: 0,
-            len: count + (to - from),
+            len: count + len,
         }),
         to,
     )
@@ -159,7 +160,8 @@ fn stays(s: FrameSplitter, hold: &mut [u8], chunk: &[u8], from: usize) -> Fed
 {
     let count = s.count;
     let n = chunk.len();
-    if !kept(s, hold.len(), n - from) {
+    let added = n - from;
+    if lost(s, hold.len(), added) {
         return Fed {
             event: Event::More,
             taken: n,
@@ -174,7 +176,7 @@ fn stays(s: FrameSplitter, hold: &mut [u8], chunk: &[u8], from: usize) -> Fed
         event: Event::More,
         taken: n,
         splitter: FrameSplitter {
-            count: count + (n - from),
+            count: count + added,
             skipping: false,
         },
     }

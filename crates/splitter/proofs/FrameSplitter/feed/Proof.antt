@@ -28,12 +28,6 @@ closes-requires c κs =
     let b = not-bad (e .before .before .before .before .args .self) _ (sym (e .before .bad .ensures) ∙ e .if1 .left) in
     (b, omega arith)
 
-stays-requires : tie.Need-stays-requires
-stays-requires c κs =
-    let e = c .before .before .before .before in
-    let b = not-bad (e .before .before .before .before .args .self) _ (sym (e .before .bad .ensures) ∙ e .if1 .left) in
-    (b, omega arith)
-
 same-length : tie.Need-same-length
 same-length c = search needs
 
@@ -41,8 +35,16 @@ returns-2 : tie.Need-returns-2
 returns-2 c =
     let t = c .before .before .before .before in
     let e = t .before .before .before in
+    let a = e .before .before .before .before .args in
     c .before .before .closes .ensures
-    ∙ feed-ends _ _ _ _ _ (sym (e .before .bad .ensures) ∙ e .if1 .left) (t .before .before .start .ensures .0) (t .before .find-far .ensures) (t .if2 .taken)
+    ∙ feed-ends (a .self) (a .hold .now) (a .chunk .now) (t .before .before .start .result) (t .before .find-far .result)
+    (sym (e .before .bad .ensures) ∙ e .if1 .left) (t .before .before .start .ensures .0) (t .before .find-far .ensures) (t .if2 .taken)
+
+stays-requires : tie.Need-stays-requires
+stays-requires c κs =
+    let e = c .before .before .before .before in
+    let b = not-bad (e .before .before .before .before .args .self) _ (sym (e .before .bad .ensures) ∙ e .if1 .left) in
+    (b, omega arith)
 
 same-length-2 : tie.Need-same-length-2
 same-length-2 c = search needs
@@ -51,8 +53,10 @@ returns-3 : tie.Need-returns-3
 returns-3 c =
     let t = c .before .before .before .before in
     let e = t .before .before .before in
+    let a = e .before .before .before .before .args in
     c .before .before .stays .ensures
-    ∙ feed-goes-on _ _ _ _ _ (sym (e .before .bad .ensures) ∙ e .if1 .left) (t .before .before .start .ensures .0) (t .before .find-far .ensures) (t .if2 .left)
+    ∙ feed-goes-on (a .self) (a .hold .now) (a .chunk .now) (t .before .before .start .result) (t .before .find-far .result)
+    (sym (e .before .bad .ensures) ∙ e .if1 .left) (t .before .before .start .ensures .0) (t .before .find-far .ensures) (t .if2 .left)
 
 pub feed-spec : {M : Type 1} → statement M
 feed-spec =
@@ -64,8 +68,8 @@ feed-spec =
     find-far-requires
     add-closes
     closes-requires
-    stays-requires
     same-length
     returns-2
+    stays-requires
     same-length-2
     returns-3)
