@@ -4,11 +4,12 @@ use mathlib.Core.Path.{_≡_, refl}
 use mathlib.Core.List.{List, [], _∷_}
 use Prim.Native.Nat.{ℕ}
 use lib.ListN.{replicate}
-use Rattle.splitter.specs.Feed.{new, indexOf, ends, goesOn, runs, feedRule}
-use Rattle.splitter.specs.Stream.{More, Overlong, Frame, Call, call}
-use Rattle.splitter.proofs.Calls.{stands-fresh, stands-good}
+use Rattle.search.specs.First.{indexOf}
+use Rattle.splitter.specs.Feed.{new, ends, goesOn, runs, feedRule}
+use Rattle.stream.specs.Stream.{More, Overlong, Frame, Call, call}
+use Rattle.stream.proofs.Calls.{stands-fresh, stands-good}
 use Rattle.splitter.proofs.One.{eventOf}
-use Rattle.splitter.proofs.Ends.{past, one-chunk, all-end}
+use Rattle.stream.proofs.Ends.{past, one-chunk, all-end}
 use Rattle.recovery.specs.Recovery.{pending}
 
 abbrev a : List ℕ

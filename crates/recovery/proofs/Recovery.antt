@@ -8,15 +8,16 @@ use lib.Dec.{leb}
 use lib.ListN.{length, length-append, length-replicate}
 use Rattle.error.proofs.Cases.{by-test}
 use Rattle.splitter.specs.declared.FrameSplitter.{FrameSplitter}
-use Rattle.splitter.specs.Feed.{new, indexOf}
-use Rattle.splitter.specs.Stream.{Said, More, Overlong, Frame, Call, Calls, Feeds, joined, takenBy, heard, answerTo}
-use Rattle.splitter.specs.Rust.{turns}
-use Rattle.splitter.proofs.Line.{opened, hear, silence, hear-append, hear-length}
-use Rattle.splitter.proofs.Calls.{stands-fresh}
-use Rattle.splitter.proofs.Stream.{Plain, Follows, follows, spoken, spoken-append, spoken-silence, answers-heard}
-use Rattle.splitter.proofs.Rust.{line-says}
-use Rattle.splitter.proofs.Heard.{split}
-use Rattle.splitter.proofs.Ends.{feeds-calls}
+use Rattle.search.specs.First.{indexOf}
+use Rattle.splitter.specs.Feed.{new}
+use Rattle.stream.specs.Stream.{Said, More, Overlong, Frame, Call, Calls, Feeds, joined, takenBy, heard, answerTo}
+use Rattle.stream.specs.Rust.{turns}
+use Rattle.stream.proofs.Line.{opened, hear, silence, hear-append, hear-length}
+use Rattle.stream.proofs.Calls.{stands-fresh}
+use Rattle.stream.proofs.Stream.{Plain, Follows, follows, spoken, spoken-append, spoken-silence, answers-heard}
+use Rattle.stream.proofs.Rust.{line-says}
+use Rattle.stream.proofs.Heard.{split}
+use Rattle.stream.proofs.Ends.{feeds-calls}
 use Rattle.frame.proofs.Round.{round-trip}
 use Rattle.frame.proofs.Wires.{Framed}
 use Rattle.recovery.specs.Recovery.{Sent, wires, pending, answersFor, Takes, InTurn, end, then, Recovered}

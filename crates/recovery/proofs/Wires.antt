@@ -12,9 +12,9 @@ use borrow.Author.Tests.{eqb-true, le-leb}
 use Rattle.error.proofs.Cases.{by-test}
 use Rattle.frame.proofs.Wires.{Framed, wire-framed, written-is}
 use Rattle.stuffing.proofs.Stuffing.{has}
-use Rattle.splitter.specs.Feed.{indexOf}
-use Rattle.splitter.specs.Stream.{Frame, atLast, answerTo}
-use Rattle.splitter.proofs.Line.{opened, hear, closes, opens-closes}
+use Rattle.search.specs.First.{indexOf}
+use Rattle.stream.specs.Stream.{Frame, atLast, answerTo}
+use Rattle.stream.proofs.Line.{opened, hear, closes, opens-closes}
 use Rattle.recovery.specs.Recovery.{Sent, hasEnd, pending}
 
 -- ---- after noise

@@ -9,8 +9,8 @@ use lib.Dec.{eqb}
 use Rattle.error.specs.Refusal.{yes}
 use Rattle.frame.specs.Wire.{Fields}
 use Rattle.frame.specs.Rule.{encodeRule, parseRule}
-use Rattle.splitter.specs.Stream.{Said, Frame, Call, call, takenBy, answers, answerTo}
-use Rattle.splitter.specs.Rust.{rustFrames}
+use Rattle.stream.specs.Stream.{Said, Frame, Call, call, takenBy, answers, answerTo}
+use Rattle.stream.specs.Rust.{rustFrames}
 
 -- ---- the stream
 

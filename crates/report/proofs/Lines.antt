@@ -8,9 +8,9 @@ use native.Mathlib.Omega.{arith}
 use lib.Dec.{lit<}
 use lib.ListN.{length, set, length-append}
 use borrow.Author.Tests.{le-leb, lt-leb}
-use Rattle.error.specs.Refusal.{yes, no}
+use Rattle.error.specs.Refusal.{Told, yes, no}
 use Rattle.report.specs.Text.{decimalOf, hexOf}
-use Rattle.report.specs.Line.{spaced, fitted, frameText, longText, endText, Lined}
+use Rattle.report.specs.Line.{spaced, saidOf, fitted, frameText, longText, endText, Lined}
 use Rattle.report.specs.Put.{Put}
 use Rattle.frame.specs.declared.RawFrame.{RawFrame}
 use Rattle.addr.specs.Address.{byteOf}
@@ -71,27 +71,21 @@ end-length k mark = rw (← end-parts k mark) (simp length-append (omega (arith,
 abbrev pub fieldsText : RawFrame → List ℕ
 fieldsText f = spaced (hexOf (byteOf (f .dest)) ∷ hexOf (byteOf (f .src)) ∷ hexOf (f .«type_id») ∷ decimalOf (f .len) ∷ [])
 
--- what stands in front of the line's end, where the frame is good, and where it is refused
-module _ (n len : ℕ) where
-  abbrev pub headText : List ℕ → List ℕ
-  headText word = decimalOf n ++ ((0x20 ∷ decimalOf len) ++ word)
+-- how long the words are that say what parsing said
+pub ok-width : (f : RawFrame) → length (decimalOf (f .len)) + 13 ≡ length (spaced (saidOf (yes f)))
+unfolding hexOf
+ok-width f = simp length-append (omega arith)
 
-  pub ok-parts : (f : RawFrame) → (headText (0x20 ∷ 0x4F ∷ 0x4B ∷ []) ++ fieldsText f) ++ (0x0A ∷ []) ≡ frameText n len (yes f)
+pub no-width : (k : ℕ) (vs : List ℕ) → length (decimalOf k) + length (valuesText vs) + 4 ≡ length (spaced (saidOf (no k vs)))
+no-width k vs = simp length-append (omega arith)
+
+module _ (n len : ℕ) (told : Told RawFrame) where
+  abbrev pub frameFront : List ℕ
+  frameFront = decimalOf n ++ ((0x20 ∷ decimalOf len) ++ spaced (saidOf told))
+
+  pub frame-parts : frameFront ++ (0x0A ∷ []) ≡ frameText n len told
   unfolding frameText
-  ok-parts f = simp append-assoc
+  frame-parts = append-assoc (decimalOf n) ((0x20 ∷ decimalOf len) ++ spaced (saidOf told)) (0x0A ∷ [])
 
-  pub ok-length : (f : RawFrame) → length (decimalOf n) + length (decimalOf len) + length (decimalOf (f .len)) + 15 ≡ length (frameText n len (yes f))
-  unfolding frameText hexOf
-  ok-length f = simp length-append (omega arith)
-
-  pub no-parts : (k : ℕ) (vs : List ℕ) → ((headText (0x20 ∷ 0x4E ∷ 0x4F ∷ []) ++ (0x20 ∷ decimalOf k)) ++ valuesText vs) ++ (0x0A ∷ []) ≡ frameText n len (no k vs)
-  unfolding frameText
-  no-parts k vs =
-      let h = headText (0x20 ∷ 0x4E ∷ 0x4F ∷ []) in
-      append-assoc (h ++ (0x20 ∷ decimalOf k)) (valuesText vs) (0x0A ∷ [])
-      ∙ append-assoc h (0x20 ∷ decimalOf k) (valuesText vs ++ (0x0A ∷ []))
-      ∙ simp append-assoc
-
-  pub no-length : (k : ℕ) (vs : List ℕ) → length (decimalOf n) + length (decimalOf len) + length (decimalOf k) + length (valuesText vs) + 6 ≡ length (frameText n len (no k vs))
-  unfolding frameText
-  no-length k vs = simp length-append (omega arith)
+  pub frame-length : length (decimalOf n) + length (decimalOf len) + length (spaced (saidOf told)) + 2 ≡ length (frameText n len told)
+  frame-length = rw (← frame-parts) (simp length-append (omega arith))

@@ -5,12 +5,12 @@ ghost use mathlib.Core.List.{[], _∷_, _++_, map};
 ghost use mathlib.Core.Bool.{cond};
 ghost use Prim.Native.Nat.{_+_, _≤_, _<_};
 ghost use lib.ListN.{length};
-ghost use Rattle.error.specs.Refusal.{yes, refused, valuesOf};
+ghost use Rattle.error.specs.Refusal.{valuesOf};
 ghost use Rattle.error.specs.Result.{toldUsize};
 ghost use Rattle.addr.specs.Address.{byteOf};
 ghost use Rattle.frame.specs.Rule.{toldRawFrame};
 ghost use Rattle.report.specs.Text.{hexDigit, decimalOf, hexOf};
-ghost use Rattle.report.specs.Line.{spaced, frameText, longText, endText, Lined};
+ghost use Rattle.report.specs.Line.{spaced, saidOf, frameText, longText, endText, Lined};
 ghost use Rattle.report.specs.Put.{Put};
 use error::ResultUsize;
 use error::WireError;
@@ -21,10 +21,18 @@ use frame::ResultRawFrame;
 pub fn frame_line(number: u64, len: usize, parsed: ResultRawFrame, out: &mut [u8]) -> ResultUsize
     ensures { λ r. ⌜ Lined (frameText number len (toldRawFrame parsed)) (now (out .entry)) (toldUsize r) (now (out .exit)) ⌝ }
 {
-    match parsed {
-        ResultRawFrame::Ok(frame) => ok_line(number, len, frame, out),
-        ResultRawFrame::Err(e) => no_line(number, len, e, out),
+    let kn = digits(number);
+    let kl = digits(len as u64);
+    let need = kn + kl + said_width(parsed) + 2;
+    let got = out.len();
+    if got < need {
+        return ResultUsize::Err(WireError::NoRoom { need, got });
     }
+    let at = put_decimal(number, kn, out, 0);
+    let at = put_number(len as u64, kl, out, at);
+    let at = put_said(parsed, out, at);
+    out[at] = b'\n';
+    ResultUsize::Ok(need)
 }
 
 // The line of a frame longer than the hold buffer: `N - LONG`.
@@ -59,56 +67,38 @@ pub fn end_line(count: usize, skipping: bool, out: &mut [u8]) -> ResultUsize
     ResultUsize::Ok(need)
 }
 
-fn ok_line(number: u64, len: usize, frame: RawFrame, out: &mut [u8]) -> ResultUsize
-    ensures { λ r. ⌜ Lined (frameText number len (yes frame)) (now (out .entry)) (toldUsize r) (now (out .exit)) ⌝ }
+// How long the words of what parsing said are, each with a space before it.
+fn said_width(parsed: ResultRawFrame) -> usize
+    ensures { λ r. ⌜ (r ≡ length (spaced (saidOf (toldRawFrame parsed)))) × (r ≤ 70) ⌝ }
 {
-    let kn = digits(number);
-    let kl = digits(len as u64);
-    let kp = digits(frame.len as u64);
-    let need = kn + kl + kp + 15;
-    let got = out.len();
-    if got < need {
-        return ResultUsize::Err(WireError::NoRoom { need, got });
+    match parsed {
+        ResultRawFrame::Ok(frame) => digits(frame.len as u64) + 13,
+        ResultRawFrame::Err(e) => digits(e.number() as u64) + values_width(e) + 4,
     }
-    let at = put_head(number, kn, len, kl, b" OK", out);
-    let at = put_fields(frame, kp, out, at);
-    out[at] = b'\n';
-    ResultUsize::Ok(need)
 }
 
-fn no_line(number: u64, len: usize, e: WireError, out: &mut [u8]) -> ResultUsize
-    ensures { λ r. ⌜ Lined (frameText number len (refused e)) (now (out .entry)) (toldUsize r) (now (out .exit)) ⌝ }
+// The words of what parsing said, each with a space before it.
+fn put_said(parsed: ResultRawFrame, out: &mut [u8], at: usize) -> usize
+    requires { ⌜ at + length (spaced (saidOf (toldRawFrame parsed))) ≤ length (now out) ⌝ }
+    ensures { λ r. ⌜ Put (spaced (saidOf (toldRawFrame parsed))) (now (out .entry)) at r (now (out .exit)) ⌝ }
 {
-    let kn = digits(number);
-    let kl = digits(len as u64);
-    let k = e.number() as u64;
-    let kk = digits(k);
-    let need = kn + kl + kk + values_width(e) + 6;
-    let got = out.len();
-    if got < need {
-        return ResultUsize::Err(WireError::NoRoom { need, got });
+    match parsed {
+        ResultRawFrame::Ok(frame) => {
+            let at = put_text(b" OK", out, at);
+            put_fields(frame, out, at)
+        }
+        ResultRawFrame::Err(e) => {
+            let k = e.number() as u64;
+            let at = put_text(b" NO", out, at);
+            let at = put_number(k, digits(k), out, at);
+            put_values(e, out, at)
+        }
     }
-    let at = put_head(number, kn, len, kl, b" NO", out);
-    let at = put_number(k, kk, out, at);
-    let at = put_values(e, out, at);
-    out[at] = b'\n';
-    ResultUsize::Ok(need)
-}
-
-// Event number, wire length and a word, at the front: the place behind them.
-fn put_head(number: u64, kn: usize, len: usize, kl: usize, word: &[u8], out: &mut [u8]) -> usize
-    requires { ⌜ (kn ≡ length (decimalOf number)) × (kl ≡ length (decimalOf len)) ⌝ }
-    requires { ⌜ kn + kl + length (now word) < length (now out) ⌝ }
-    ensures { λ r. ⌜ Put (decimalOf number ++ ((0x20 ∷ decimalOf len) ++ now (word .entry))) (now (out .entry)) 0 r (now (out .exit)) ⌝ }
-{
-    let at = put_decimal(number, kn, out, 0);
-    let at = put_number(len as u64, kl, out, at);
-    put_text(word, out, at)
 }
 
 // A frame's fields: DEST, SRC, TYPE and the payload's length.
-fn put_fields(frame: RawFrame, kp: usize, out: &mut [u8], at: usize) -> usize
-    requires { ⌜ (kp ≡ length (decimalOf (frame .len))) × (at + kp + 9 < length (now out)) ⌝ }
+fn put_fields(frame: RawFrame, out: &mut [u8], at: usize) -> usize
+    requires { ⌜ at + length (decimalOf (frame .len)) + 9 < length (now out) ⌝ }
     ensures { λ r. ⌜ Put (spaced (hexOf (byteOf (frame .dest)) ∷ hexOf (byteOf (frame .src)) ∷ hexOf (frame .«type_id») ∷ decimalOf (frame .len) ∷ [])) (now (out .entry)) at r (now (out .exit)) ⌝ }
 {
     let dest = frame.dest;
@@ -116,7 +106,8 @@ fn put_fields(frame: RawFrame, kp: usize, out: &mut [u8], at: usize) -> usize
     let at = put_byte(dest.as_byte(), out, at);
     let at = put_byte(src.as_byte(), out, at);
     let at = put_byte(frame.type_id, out, at);
-    put_number(frame.len as u64, kp, out, at)
+    let len = frame.len as u64;
+    put_number(len, digits(len), out, at)
 }
 
 // How long a refusal's values are, each with a space before it.

@@ -13,7 +13,7 @@ use Rattle.report.specs.Line.{Lined, fitted}
 use Rattle.splitter.specs.declared.Fed.{Fed}
 use Rattle.splitter.specs.Feed.{Given, feedRule, toldEvent}
 use Rattle.splitter.specs.Feed.{shown as shownFed}
-use Rattle.splitter.specs.Stream.{Said, saidOf}
+use Rattle.stream.specs.Stream.{Said, saidOf}
 use Rattle.session.specs.declared.Step.{Step}
 use Rattle.session.specs.Lines.{lineTo, numberTo}
 use Rattle.session.specs.Piece.{Stage, stage, fed, said, textOf, stageAfter, payloadTo}

@@ -13,9 +13,10 @@ use borrow.Author.Tests.{le-ltb}
 use Rattle.error.specs.Refusal.{yes}
 use Rattle.error.proofs.Cases.{by-test}
 use Rattle.splitter.specs.declared.FrameSplitter.{FrameSplitter}
-use Rattle.splitter.specs.Feed.{feedRule, runs, ends, goesOn, isBad, isOpen, isKept, startIn, firstFrom, total}
+use Rattle.search.specs.First.{firstFrom}
+use Rattle.splitter.specs.Feed.{feedRule, runs, ends, goesOn, isBad, isOpen, isKept, startIn, total}
 use Rattle.splitter.proofs.Laws.{kept-is}
-use Rattle.splitter.proofs.Ends.{feed-within, feed-moves}
+use Rattle.stream.proofs.Ends.{feed-within, feed-moves}
 use Rattle.session.specs.declared.Session.{Session}
 use Rattle.session.specs.declared.Step.{Step}
 use Rattle.session.specs.Piece.{Stage, stage, fed, textOf, stageAfter, Work, work, behind, works, Done, done, allLines}

@@ -17,14 +17,14 @@ use Rattle.frame.specs.Wire.{Fields}
 use Rattle.frame.specs.Rule.{filled, then, checkRule, roomRule, parseRule}
 use Rattle.splitter.specs.declared.FrameSplitter.{FrameSplitter}
 use Rattle.splitter.specs.Feed.{Given, new, toldEvent, isBad}
-use Rattle.splitter.specs.Stream.{Said, More, Overlong, Frame, Refused, saidOf, Call, Calls, Feeds, joined, unlessMore, answers, answerTo}
-use Rattle.splitter.specs.Stream as stream
-use Rattle.splitter.specs.Rust.{rustFrames}
-use Rattle.splitter.proofs.Calls.{Stands, stands-fresh, Agrees, one-call}
+use Rattle.stream.specs.Stream.{Said, More, Overlong, Frame, Refused, saidOf, Call, Calls, Feeds, joined, unlessMore, answers, answerTo}
+use Rattle.stream.specs.Stream as stream
+use Rattle.stream.specs.Rust.{rustFrames}
+use Rattle.stream.proofs.Calls.{Stands, stands-fresh, Agrees, one-call}
 use Rattle.splitter.proofs.One.{fedOf}
-use Rattle.splitter.proofs.Ends.{allowed, feeds-calls}
-use Rattle.splitter.proofs.Stream.{any-cutting}
-use Rattle.splitter.proofs.Rust.{as-the-rust}
+use Rattle.stream.proofs.Ends.{allowed, feeds-calls}
+use Rattle.stream.proofs.Stream.{any-cutting}
+use Rattle.stream.proofs.Rust.{as-the-rust}
 use Rattle.report.specs.Line.{endText, fitted, Lined}
 use Rattle.session.specs.declared.Ran.{Ran}
 use Rattle.session.specs.Lines.{lineTo, numberTo, linesOf}

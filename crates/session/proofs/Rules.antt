@@ -12,7 +12,7 @@ use Rattle.error.proofs.Cases.{by-test}
 use Rattle.splitter.specs.declared.FrameSplitter.{FrameSplitter}
 use Rattle.splitter.specs.Feed.{Given, Answer, feedRule, isBad}
 use Rattle.splitter.proofs.Laws.{feed-bad}
-use Rattle.splitter.proofs.Ends.{feed-empty}
+use Rattle.stream.proofs.Ends.{feed-empty}
 use Rattle.session.specs.Piece.{Stage, roomFor, done, allLines, pieceRule}
 
 -- ---- a feed of nothing

@@ -5,7 +5,7 @@ use mathlib.Core.List.{List, [], _∷_, _++_}
 use lib.ListN.{length}
 use Rattle.error.specs.Refusal.{onYes}
 use Rattle.frame.specs.Rule.{parseRule, headerOf}
-use Rattle.splitter.specs.Stream.{Said, More, Overlong, Frame, Refused}
+use Rattle.stream.specs.Stream.{Said, More, Overlong, Frame, Refused}
 use Rattle.report.specs.Line.{frameText, longText}
 
 -- the line of an answer: a frame is parsed; More prints nothing, and what is refused is no event

@@ -9,7 +9,7 @@ use Rattle.error.specs.Refusal.{Told, yes, no, onYes}
 use Rattle.error.specs.Result.{toldUsize}
 use Rattle.frame.specs.Rule.{parseRule, filled}
 use Rattle.splitter.specs.Feed.{Given, feedRule, isBad}
-use Rattle.splitter.specs.Stream.{Said, More, Overlong, Frame, Refused, saidOf}
+use Rattle.stream.specs.Stream.{Said, More, Overlong, Frame, Refused, saidOf}
 use Rattle.session.specs.declared.Session.{Session}
 use Rattle.session.specs.declared.Ran.{Ran}
 use Rattle.session.specs.Lines.{lineTo, numberTo}

@@ -8,7 +8,7 @@ ghost use lib.ListN.{length};
 ghost use Rattle.error.specs.Refusal.{yes, no};
 ghost use Rattle.error.specs.Result.{toldUnit, toldUsize};
 ghost use Rattle.splitter.specs.Feed.{new, isBad};
-ghost use Rattle.splitter.specs.Stream.{Frame};
+ghost use Rattle.stream.specs.Stream.{Frame};
 ghost use Rattle.report.specs.Line.{longText};
 ghost use Rattle.session.specs.Lines.{lineTo};
 ghost use Rattle.session.specs.Piece.{stage, payloadTo, roomFor, allLines, shown, pieceRule, frontOf};
@@ -158,7 +158,7 @@ fn next_event(
     let next = std::num::wrapping_add_u64(number, 1);
     match event {
         Event::Frame(place) => {
-            let wire = splitter::view(chunk, hold, place);
+            let wire = view::view(chunk, hold, place);
             let written = put_frame(number, wire, payload, out);
             stepped_to(splitter, next, taken, written)
         }

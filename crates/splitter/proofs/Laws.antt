@@ -1,46 +1,36 @@
--- Laws of specs/Feed and specs/View that the proofs cite: places that are found, a frame that is kept, the cases of `feedRule`.
+-- Laws of specs/Feed that the proofs cite: a frame that is kept, the cases of `ends`, `goesOn` and `feedRule`.
 -- Assumes nothing.
 use mathlib.Core.Path.{_≡_, refl, sym, ap, _∙_}
 use mathlib.Core.Bool.{Bool, true, false, cond, not, _&&_, _||_}
 use mathlib.Core.List.{List, []}
 use Prim.Native.Nat.{ℕ, _+_, _-_, _≤_, _<_}
 use native.Mathlib.Omega.{arith}
-use native.Mathlib.Numerals.{add-one}
-use lib.Dec.{leb}
-use lib.ListN.{length, take, drop, getD}
-use lib.Seq.{drop-cons, drop-length, take-length, paste}
-use borrow.Author.Tests.{eq-eqb, ne-eqb, le-leb, lt-leb, lt-ltb, le-ltb, ltb-false, leb-true}
+use lib.Dec.{leb, ltb}
+use lib.ListN.{length}
+use lib.Seq.{take-length, paste}
+use borrow.Author.Tests.{eq-eqb, ne-eqb, lt-ltb, le-ltb, ltb-false, leb-true, leb-false}
 use Rattle.error.specs.Refusal.{no}
 use Rattle.error.proofs.Cases.{by-test}
+use Rattle.search.specs.First.{firstFrom}
 use Rattle.splitter.specs.declared.FrameSplitter.{FrameSplitter}
-use Rattle.splitter.specs.Feed.{indexOf, firstFrom, laid, total, isBad, isKept, startIn, given, ends, goesOn, runs, feedRule}
-use Rattle.splitter.specs.View.{partOrNone}
-
--- b is at i
-pub first-hit : (b i : ℕ) (l : List ℕ) → i < length l → getD l i 0 ≡ b → firstFrom b i l ≡ i
-unfolding indexOf
-first-hit b i l h e = rw (drop-cons l i 0 h, eq-eqb _ _ e) (omega arith)
-
--- b is not at i
-pub first-miss : (b i : ℕ) (l : List ℕ) → i < length l → (getD l i 0 ≡ b → ⊥) → firstFrom b i l ≡ firstFrom b (i + 1) l
-unfolding indexOf
-first-miss b i l h n = rw (drop-cons l i 0 h, ne-eqb _ _ n, add-one i) (omega arith)
-
--- past the end
-pub first-end : (b i : ℕ) (l : List ℕ) → i ≡ length l → firstFrom b i l ≡ i
-unfolding indexOf
-first-end b i l e = rw (e, drop-length) (omega arith)
+use Rattle.splitter.specs.declared.Fed.{Fed}
+use Rattle.splitter.specs.declared.Event.the-variants.{More, Frame, Overlong}
+use Rattle.splitter.specs.Feed.{given, shown, new, holding, marked, isBad, isKept, startIn, part, laid, total, ends, goesOn, runs, feedRule}
 
 -- a whole list that is pasted
 pub paste-all : (d : List ℕ) (at : ℕ) (s : List ℕ) (i : ℕ) → i ≡ length s → paste d at s i ≡ laid d at s
 paste-all d at s i e = rw (e, take-length)
 
--- two tests that say the same
-pub leb-same : (a b c d : ℕ) → (a ≤ b → c ≤ d) → (c ≤ d → a ≤ b) → leb a b ≡ leb c d
-leb-same a b c d f g =
-    by-test (leb c d)
-    (λ e. le-leb a b (g (leb-true c d e)) ∙ sym e)
-    (λ e. by-test (leb a b) (λ u. u ∙ sym (le-leb c d (f (leb-true a b u)))) (λ u. u ∙ sym e))
+-- a frame without the mark is lost where the room that is left is less than what is added
+pub lost-is : (s : FrameSplitter) (H n : ℕ) → s .skipping ≡ false → s .count ≤ H → ltb (H - s .count) n ≡ not (isKept s H n)
+lost-is s H n m l =
+    by-test (leb (total s n) H)
+    (λ e.
+    let k : s .count + n ≤ H = leb-true (total s n) H e in
+    rw (m, e, le-ltb (H - s .count) n (omega arith)))
+    (λ e.
+    let k : H < s .count + n = leb-false (total s n) H e in
+    rw (m, e, lt-ltb (H - s .count) n (omega arith)))
 
 -- a frame that is kept has no mark, and fits
 both : (a b : Bool) → not a && b ≡ true → (a ≡ false) × (b ≡ true)
@@ -54,15 +44,32 @@ kept-is s H n e =
     let k = both (s .skipping) (leb (total s n) H) e in
     (k .0, leb-true (total s n) H (k .1))
 
--- ---- the view
+-- ---- a reply r, with the hold buffer h′ after it, where a frame ends or goes on
 
-pub part-fits : (l : List ℕ) (i n : ℕ) → i + n ≤ length l → take (i + n - i) (drop i l) ≡ partOrNone l i n
-part-fits l i n h =
-    let e : i + n - i ≡ n = omega arith in
-    rw (e, le-leb _ _ h)
+module _ (s : FrameSplitter) (h c : List ℕ) (i e : ℕ) (r : Fed) where
+  pub ends-lost : r ≡ record { event = Overlong; taken = e; splitter = new } → isKept s (length h) (e - i) ≡ false → shown r h ≡ ends s h c i e
+  unfolding ends
+  ends-lost p k = rw (p, k)
 
-pub part-none : (l : List ℕ) (i n : ℕ) → length l < i + n → [] ≡ partOrNone l i n
-part-none l i n h = rw (lt-leb _ _ h)
+  pub goes-lost : r ≡ record { event = More; taken = e; splitter = marked s } → isKept s (length h) (e - i) ≡ false → shown r h ≡ goesOn s h c i e
+  unfolding goesOn
+  goes-lost p k = rw (p, k)
+
+  module _ (k : isKept s (length h) (e - i) ≡ true) where
+    pub ends-shown : r ≡ record { event = Frame (record { in_hold = false; start = i; len = e - i }); taken = e; splitter = new } → s .count ≡ 0
+        → shown r h ≡ ends s h c i e
+    unfolding ends
+    ends-shown p z = rw (p, k, kept-is s (length h) (e - i) k .0, eq-eqb (s .count) 0 z)
+
+    module _ (h′ : List ℕ) (q : h′ ≡ laid h (s .count) (part c i e)) where
+      pub ends-held : r ≡ record { event = Frame (record { in_hold = true; start = 0; len = total s (e - i) }); taken = e; splitter = new }
+          → (s .count ≡ 0 → ⊥) → shown r h′ ≡ ends s h c i e
+      unfolding ends
+      ends-held p n = rw (p, q, k, kept-is s (length h) (e - i) k .0, ne-eqb (s .count) 0 n)
+
+      pub goes-held : r ≡ record { event = More; taken = e; splitter = holding s (total s (e - i)) } → shown r h′ ≡ goesOn s h c i e
+      unfolding goesOn
+      goes-held p = rw (p, q, k)
 
 -- ---- feed
 

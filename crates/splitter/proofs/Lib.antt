@@ -1,10 +1,3 @@
--- The laws of the splitter's rule, and its theorems.
+-- The laws of the splitter's rule, and that it fixes the reply.
 pub mod Laws
-pub mod Line
-pub mod Calls
-pub mod Stream
-pub mod Heard
-pub mod Rust
 pub mod One
-pub mod Contract
-pub mod Ends

@@ -3,16 +3,13 @@
 use mathlib.Core.Path.{_≡_, refl, sym, ap, _∙_}
 use mathlib.Core.List.{List}
 use Prim.Native.Nat.{ℕ}
-use denote.Ref.{RefT}
 use Rattle.error.specs.Refusal.{Told, yes, no}
 use Rattle.error.proofs.Decides.{refusal, there}
 use Rattle.splitter.specs.declared.FrameSplitter.{FrameSplitter}
-use Rattle.splitter.specs.declared.Place.{Place}
 use Rattle.splitter.specs.declared.Fed.{Fed}
 use Rattle.splitter.specs.declared.Event.{Event}
 use Rattle.splitter.specs.declared.Event.the-variants.{More, Frame, Overlong, Err}
 use Rattle.splitter.specs.Feed.{Given, Answer, more, overlong, frame, new, toldEvent, shown, feedRule}
-use Rattle.splitter.specs.View.{viewRule, viewAt}
 
 -- the event back from what is told
 unfoldable pub eventOf : Told Answer → Event
@@ -41,8 +38,3 @@ one-fed {f} {f′} {h₁} {h₂} s h c e e′ =
 
 pub one-new : {r s : FrameSplitter} → r ≡ new → s ≡ new → r ≡ s
 one-new p q = p ∙ sym q
-
--- of a returned part: its bytes, and where it lies
-pub one-view : (r r′ c h : RefT (List ℕ)) (p : Place) → r .now ≡ viewRule (c .now) (h .now) p → r .ptr ≡ viewAt c h p
-    → r′ .now ≡ viewRule (c .now) (h .now) p → r′ .ptr ≡ viewAt c h p → (r .now ≡ r′ .now) × (r .ptr ≡ r′ .ptr)
-one-view r r′ c h p a b a′ b′ = (a ∙ sym a′, b ∙ sym b′)

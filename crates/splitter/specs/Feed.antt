@@ -1,11 +1,12 @@
 -- Document 01, 'Splitter': what one call of `feed` does. s is the state before it, h the hold buffer, c the chunk.
 -- `feedRule` fixes the answer, the bytes taken, the state after the call and every byte of the hold buffer.
-use Prim.Native.Nat.{ℕ, suc, _+_, _-_}
+use Prim.Native.Nat.{ℕ, _+_, _-_}
 use mathlib.Core.Bool.{Bool, true, false, cond, not, _&&_, _||_}
-use mathlib.Core.List.{List, [], _∷_, _++_}
+use mathlib.Core.List.{List, [], _++_}
 use lib.ListN.{length, take, drop}
 use lib.Dec.{ltb, leb, eqb}
 use Rattle.error.specs.Refusal.{Told, yes, no, refused}
+use Rattle.search.specs.First.{firstFrom}
 use Rattle.splitter.specs.declared.FrameSplitter.{FrameSplitter}
 use Rattle.splitter.specs.declared.Place.{Place}
 use Rattle.splitter.specs.declared.Fed.{Fed}
@@ -61,15 +62,6 @@ abbrev pub isBad : FrameSplitter → ℕ → Bool
 isBad s H = ltb H (s .count) || (s .skipping && not (eqb (s .count) 0))
 
 -- ---- places in a chunk
-
--- the index of the first b of a list, or the list's length
-unfoldable pub indexOf : ℕ → List ℕ → ℕ
-indexOf b [] = 0
-indexOf b (x ∷ l) = cond (eqb x b) 0 (suc (indexOf b l))
-
--- the same, from an index on
-abbrev pub firstFrom : ℕ → ℕ → List ℕ → ℕ
-firstFrom b i l = i + indexOf b (drop i l)
 
 -- where the frame's bytes start: at once where it is open, else at the first F0
 abbrev pub startIn : FrameSplitter → List ℕ → ℕ

@@ -1,12 +1,13 @@
 // The splitter: cuts a byte stream that comes in chunks into frames F0 .. F1, one event a call.
-// However the stream is cut, the frames are the Rust's; those longer than the hold buffer are answered Overlong (proofs/Stream).
+// However the stream is cut, the frames are the Rust's; those longer than the hold buffer are answered Overlong (crate stream).
 ghost use mathlib.Core.Path.{_≡_};
-ghost use mathlib.Core.Bool.{false};
-ghost use Prim.Native.Nat.{_+_, _-_, _≤_, _<_};
+ghost use mathlib.Core.Bool.{not};
+ghost use Prim.Native.Nat.{_+_, _≤_};
 ghost use lib.ListN.{length};
-ghost use Rattle.splitter.specs.Feed.{new, isBad, isKept, firstFrom, startIn, laid, shown, ends, goesOn, feedRule};
-ghost use Rattle.splitter.specs.View.{viewRule, viewAt};
+ghost use Rattle.splitter.specs.Feed.{new, isBad, isKept, startIn, laid, shown, ends, goesOn, feedRule};
 use error::WireError;
+use search::find;
+use search::find_far;
 
 const START: u8 = 0xF0;
 
@@ -62,13 +63,11 @@ impl FrameSplitter {
             };
         }
         let from = start(self, chunk);
-        let near = skip(chunk, from, END);
-        let end = find(chunk, near, END);
+        let end = find_far(chunk, from, END);
         if end < chunk.len() {
-            closes(self, hold, chunk, from, end + 1)
-        } else {
-            stays(self, hold, chunk, from)
+            return closes(self, hold, chunk, from, end + 1);
         }
+        stays(self, hold, chunk, from)
     }
 }
 
@@ -99,15 +98,15 @@ fn start(s: FrameSplitter, chunk: &[u8]) -> usize
     find(chunk, 0, START)
 }
 
-// Whether the open frame with added more bytes is no longer than the hold buffer.
-fn kept(s: FrameSplitter, room: usize, added: usize) -> bool
+// Whether the open frame with added more bytes is longer than the hold buffer, or has been.
+fn lost(s: FrameSplitter, room: usize, added: usize) -> bool
     requires { ⌜ s .count ≤ room ⌝ }
-    ensures { λ r. ⌜ r ≡ isKept s room added ⌝ }
+    ensures { λ r. ⌜ r ≡ not (isKept s room added) ⌝ }
 {
     if s.skipping {
-        return false;
+        return true;
     }
-    added <= room - s.count
+    room - s.count < added
 }
 
 // The frame ends in the chunk, just before index to.
@@ -117,7 +116,8 @@ fn closes(s: FrameSplitter, hold: &mut [u8], chunk: &[u8], from: usize, to: usiz
     ensures { λ r. ⌜ shown r (now (hold .exit)) ≡ ends s (now (hold .entry)) (now (chunk .entry)) from to ⌝ }
 {
     let count = s.count;
-    if !kept(s, hold.len(), to - from) {
+    let len = to - from;
+    if lost(s, hold.len(), len) {
         return ended(Event::Overlong, to);
     }
     if count == 0 {
@@ -125,7 +125,7 @@ fn closes(s: FrameSplitter, hold: &mut [u8], chunk: &[u8], from: usize, to: usiz
             Event::Frame(Place {
                 in_hold: false,
                 start: from,
-                len: to - from,
+                len,
             }),
             to,
         );
@@ -135,7 +135,7 @@ fn closes(s: FrameSplitter, hold: &mut [u8], chunk: &[u8], from: usize, to: usiz
         Event::Frame(Place {
             in_hold: true,
             start: 0,
-            len: count + (to - from),
+            len: count + len,
         }),
         to,
     )
@@ -160,7 +160,8 @@ fn stays(s: FrameSplitter, hold: &mut [u8], chunk: &[u8], from: usize) -> Fed
 {
     let count = s.count;
     let n = chunk.len();
-    if !kept(s, hold.len(), n - from) {
+    let added = n - from;
+    if lost(s, hold.len(), added) {
         return Fed {
             event: Event::More,
             taken: n,
@@ -175,56 +176,10 @@ fn stays(s: FrameSplitter, hold: &mut [u8], chunk: &[u8], from: usize) -> Fed
         event: Event::More,
         taken: n,
         splitter: FrameSplitter {
-            count: count + (n - from),
+            count: count + added,
             skipping: false,
         },
     }
-}
-
-// The index of the first b of a at or after from, or a's length.
-fn find(a: &[u8], from: usize, b: u8) -> usize
-    requires { ⌜ from ≤ length (now a) ⌝ }
-    ensures { λ r. ⌜ (r ≡ firstFrom b from (now (a .entry))) × (r ≤ length (now (a .entry))) ⌝ }
-{
-    let mut i = from;
-    while i < a.len() {
-        if a[i] == b {
-            return i;
-        }
-        i += 1;
-    }
-    i
-}
-
-// From index from on, past the blocks of 16 bytes that have no b.
-fn skip(a: &[u8], from: usize, b: u8) -> usize
-    requires { ⌜ from ≤ length (now a) ⌝ }
-    ensures { λ r. ⌜ (firstFrom b from (now (a .entry)) ≡ firstFrom b r (now (a .entry))) × (r ≤ length (now (a .entry))) ⌝ }
-{
-    let mut i = from;
-    while 16 <= a.len() - i {
-        if has(a, i, b) {
-            return i;
-        }
-        i += 16;
-    }
-    i
-}
-
-// Whether b is among the 16 bytes from index i on. All are looked at, so that they are compared at once.
-fn has(a: &[u8], i: usize, b: u8) -> bool
-    requires { ⌜ i + 16 ≤ length (now a) ⌝ }
-    ensures { λ r. ⌜ (r ≡ false → firstFrom b i (now (a .entry)) ≡ firstFrom b (i + 16) (now (a .entry))) ⌝ }
-{
-    let mut hit = false;
-    let mut k = 0;
-    while k < 16 {
-        if a[i + k] == b {
-            hit = true;
-        }
-        k += 1;
-    }
-    hit
 }
 
 // Writes src over dst from index at on.
@@ -237,27 +192,4 @@ fn lay(dst: &mut [u8], at: usize, src: &[u8])
         dst[at + i] = src[i];
         i += 1;
     }
-}
-
-// The bytes at a place: a part of the chunk or of the hold, or the chunk's empty start where the place does not fit.
-pub fn view<'a>(chunk: &'a [u8], hold: &'a [u8], place: Place) -> &'a [u8]
-    ensures { λ r. ⌜ now r ≡ viewRule (now (chunk .entry)) (now (hold .entry)) place ⌝ }
-    ensures { λ r. ⌜ r .ptr ≡ viewAt (chunk .entry) (hold .entry) place ⌝ }
-{
-    let from = place.start;
-    let len = place.len;
-    if place.in_hold {
-        if from <= hold.len() {
-            if len <= hold.len() - from {
-                return &hold[from..from + len];
-            }
-        }
-        return &chunk[0..0];
-    }
-    if from <= chunk.len() {
-        if len <= chunk.len() - from {
-            return &chunk[from..from + len];
-        }
-    }
-    &chunk[0..0]
 }

@@ -34,15 +34,18 @@ put-byte-requires-3 c κs =
     let p = put-then (b₁ .put-byte .ensures) (b₂ .put-byte2 .ensures) in
     omega (arith, p .place, put-length p)
 
+digits-requires : tie.Need-digits-requires
+digits-requires c κs = search needs
+
 put-number-requires : tie.Need-put-number-requires
 unfolding hexOf
 put-number-requires c κs =
-    let b₃ = c .before .before .before in
+    let d = c .before .digits .ensures .0 in
+    let b₃ = c .before .before .before .before in
     let b₂ = b₃ .before .before .before .before in
     let b₁ = b₂ .before .before .before .before .before in
-    let s = b₁ .before .before .before .before in
     let p = put-then (put-then (b₁ .put-byte .ensures) (b₂ .put-byte2 .ensures)) (b₃ .put-byte3 .ensures) in
-    (s .pre .0, omega (arith, p .place, put-length p, s .pre .1))
+    (d, omega (arith, d, p .place, put-length p, b₁ .before .before .before .before .pre))
 
 same-length : tie.Need-same-length
 same-length c = search needs
@@ -50,7 +53,7 @@ same-length c = search needs
 returns : tie.Need-returns
 returns c =
     let n = c .before .before in
-    let b₃ = n .before .before .before .before in
+    let b₃ = n .before .before .before .before .before in
     let b₂ = b₃ .before .before .before .before in
     let b₁ = b₂ .before .before .before .before .before in
     let d = rw (b₁ .before .before .as-byte .ensures) at (b₁ .put-byte .ensures) in
@@ -66,6 +69,7 @@ put-fields-spec =
     as-byte-requires-2
     put-byte-requires-2
     put-byte-requires-3
+    digits-requires
     put-number-requires
     same-length
     returns)

@@ -5,7 +5,7 @@ use mathlib.Core.List.{List}
 use lib.ListN.{length}
 use Rattle.splitter.specs.declared.Event.{Event}
 use Rattle.splitter.specs.Feed.{toldEvent}
-use Rattle.splitter.specs.Stream.{Said, Frame, saidOf}
+use Rattle.stream.specs.Stream.{Said, Frame, saidOf}
 use Rattle.session.specs.Lines.{lineTo, numberTo}
 use Rattle.session.specs.Piece.{Stage, stage, payloadTo}
 use Rattle.session.specs.Event.{Wrote, Stepped}

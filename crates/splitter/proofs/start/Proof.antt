@@ -4,6 +4,7 @@ use mathlib.Core.Path.{_≡_}
 use borrow.Author.Needs.{needs}
 use native.Mathlib.Omega.{arith}
 use borrow.Author.Tests.{eq-eqb, ne-eqb}
+use Rattle.search.proofs.First.{first-le}
 use Rattle.splitter.proofs.start.Statement.{statement}
 use Rattle.splitter.proofs.start.Tie as tie
 
@@ -22,7 +23,7 @@ returns-3 : tie.Need-returns-3
 returns-3 c =
     let e = c .before in
     let none : e .before .before .before .before .args .s .count ≡ 0 = omega arith in
-    (simp (e .before .before .if1 .left, eq-eqb _ _ none) (c .find .ensures .0), c .find .ensures .1)
+    (simp (e .before .before .if1 .left, eq-eqb _ _ none) (c .find .ensures), rw (c .find .ensures) (first-le _ 0 _ (omega arith)))
 
 pub start-spec : {M : Type 1} → statement M
 start-spec = tie.close (tie.spec returns returns-2 find-requires returns-3)

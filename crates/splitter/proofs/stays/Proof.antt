@@ -1,30 +1,31 @@
 -- `stays` meets its contract: at each `return` the test that led there says which case of `goesOn` holds.
 -- Assumes nothing.
-use mathlib.Core.Path.{_≡_, sym, _∙_}
-use mathlib.Core.Bool.{false}
+use mathlib.Core.Path.{_≡_, refl, sym, _∙_}
+use mathlib.Core.Bool.{true}
 use Prim.Native.Nat.{_-_, _≤_}
+use native.Mathlib.Omega.{arith}
 use lib.ListN.{length}
-use borrow.Author.Tests.{le-leb, not-true, not-false}
-use Rattle.splitter.specs.Feed.{total, goesOn}
-use Rattle.splitter.proofs.Laws.{kept-is}
+use borrow.Author.Tests.{not-true, not-false}
+use Rattle.splitter.specs.Feed.{total, isKept}
+use Rattle.splitter.proofs.Laws.{kept-is, goes-lost, goes-held}
 use borrow.Author.Needs.{needs}
 use Rattle.splitter.proofs.stays.Statement.{statement}
 use Rattle.splitter.proofs.stays.Tie as tie
 
-sub-kept : tie.Need-sub-kept
-sub-kept c = search needs
+sub-added : tie.Need-sub-added
+sub-added c = search needs
 
-kept-requires : tie.Need-kept-requires
-kept-requires c κs = search needs
+lost-requires : tie.Need-lost-requires
+lost-requires c κs = search needs
 
 returns : tie.Need-returns
-unfolding goesOn
-returns c = simp (sym (c .before .kept .ensures) ∙ not-true _ (c .if1 .taken))
+returns c =
+    let a = c .before .before .before .before .args in
+    goes-lost (a .s) (a .hold .now) (a .chunk .now) (a .from) (length (a .chunk .now)) _ refl (not-true _ (sym (c .before .lost .ensures) ∙ c .if1 .taken))
 
 -- past the test
-fits : (c : tie.Else1) → let a = c .before .before .before .before .args in
-    (a .s .skipping ≡ false) × (total (a .s) (length (a .chunk .now) - a .from) ≤ length (a .hold .now))
-fits c = kept-is _ _ _ (sym (c .before .kept .ensures) ∙ not-false _ (c .if1 .left))
+kept : (c : tie.Else1) → let a = c .before .before .before .before .args in isKept (a .s) (length (a .hold .now)) (length (a .chunk .now) - a .from) ≡ true
+kept c = not-false _ (sym (c .before .lost .ensures) ∙ c .if1 .left)
 
 sub-lay : tie.Need-sub-lay
 sub-lay c = search needs
@@ -37,37 +38,24 @@ part-lay-end c = search needs
 
 lay-requires : tie.Need-lay-requires
 lay-requires c κs =
-    let f = fits (c .before .before) in
-    search needs
+    let e = c .before .before in
+    let a = e .before .before .before .before .args in
+    let f : total (a .s) (length (a .chunk .now) - a .from) ≤ length (a .hold .now) = kept-is (a .s) (length (a .hold .now)) (length (a .chunk .now) - a .from) (kept e) .1 in
+    omega arith
 
-sub-t9 : tie.Need-sub-t9
-sub-t9 c = search needs
-
-add-t8 : tie.Need-add-t8
-add-t8 c = search needs
+add-t9 : tie.Need-add-t9
+add-t9 c = search needs
 
 same-length : tie.Need-same-length
 same-length c = search needs
 
 returns-2 : tie.Need-returns-2
-unfolding goesOn
 returns-2 c =
     let l = c .before .before in
-    let f = fits (l .before .before .before) in
-    simp (f .0, le-leb _ _ (f .1), l .lay .ensures)
+    let e = l .before .before .before in
+    let a = e .before .before .before .before .args in
+    goes-held (a .s) (a .hold .now) (a .chunk .now) (a .from) (length (a .chunk .now)) _ (kept e) (l .lay .last .0) (l .lay .ensures) refl
 
 pub stays-spec : {M : Type 1} → statement M
 stays-spec =
-    tie.close
-    (tie.spec
-    sub-kept
-    kept-requires
-    returns
-    sub-lay
-    part-lay-start
-    part-lay-end
-    lay-requires
-    sub-t9
-    add-t8
-    same-length
-    returns-2)
+    tie.close (tie.spec sub-added lost-requires returns sub-lay part-lay-start part-lay-end lay-requires add-t9 same-length returns-2)

@@ -16,24 +16,15 @@ returns c = sym (feed-bad _ _ _ (sym (c .before .bad .ensures) ∙ c .if1 .taken
 start-requires : tie.Need-start-requires
 start-requires c κs = search needs
 
-skip-requires : tie.Need-skip-requires
-skip-requires c κs = search needs
-
-find-requires : tie.Need-find-requires
-find-requires c κs = search needs
+find-far-requires : tie.Need-find-far-requires
+find-far-requires c κs = search needs
 
 add-closes : tie.Need-add-closes
 add-closes c = search needs
 
 closes-requires : tie.Need-closes-requires
 closes-requires c κs =
-    let e = c .before .before .before .before .before in
-    let b = not-bad (e .before .before .before .before .args .self) _ (sym (e .before .bad .ensures) ∙ e .if1 .left) in
-    (b, omega arith)
-
-stays-requires : tie.Need-stays-requires
-stays-requires c κs =
-    let e = c .before .before .before .before .before in
+    let e = c .before .before .before .before in
     let b = not-bad (e .before .before .before .before .args .self) _ (sym (e .before .bad .ensures) ∙ e .if1 .left) in
     (b, omega arith)
 
@@ -43,9 +34,17 @@ same-length c = search needs
 returns-2 : tie.Need-returns-2
 returns-2 c =
     let t = c .before .before .before .before in
-    let e = t .before .before .before .before in
+    let e = t .before .before .before in
+    let a = e .before .before .before .before .args in
     c .before .before .closes .ensures
-    ∙ feed-ends _ _ _ _ _ (sym (e .before .bad .ensures) ∙ e .if1 .left) (t .before .before .before .start .ensures .0) (t .before .find .ensures .0 ∙ sym (t .before .before .skip .ensures .0)) (t .if2 .taken)
+    ∙ feed-ends (a .self) (a .hold .now) (a .chunk .now) (t .before .before .start .result) (t .before .find-far .result)
+    (sym (e .before .bad .ensures) ∙ e .if1 .left) (t .before .before .start .ensures .0) (t .before .find-far .ensures) (t .if2 .taken)
+
+stays-requires : tie.Need-stays-requires
+stays-requires c κs =
+    let e = c .before .before .before .before in
+    let b = not-bad (e .before .before .before .before .args .self) _ (sym (e .before .bad .ensures) ∙ e .if1 .left) in
+    (b, omega arith)
 
 same-length-2 : tie.Need-same-length-2
 same-length-2 c = search needs
@@ -53,9 +52,11 @@ same-length-2 c = search needs
 returns-3 : tie.Need-returns-3
 returns-3 c =
     let t = c .before .before .before .before in
-    let e = t .before .before .before .before in
+    let e = t .before .before .before in
+    let a = e .before .before .before .before .args in
     c .before .before .stays .ensures
-    ∙ feed-goes-on _ _ _ _ _ (sym (e .before .bad .ensures) ∙ e .if1 .left) (t .before .before .before .start .ensures .0) (t .before .find .ensures .0 ∙ sym (t .before .before .skip .ensures .0)) (t .if2 .left)
+    ∙ feed-goes-on (a .self) (a .hold .now) (a .chunk .now) (t .before .before .start .result) (t .before .find-far .result)
+    (sym (e .before .bad .ensures) ∙ e .if1 .left) (t .before .before .start .ensures .0) (t .before .find-far .ensures) (t .if2 .left)
 
 pub feed-spec : {M : Type 1} → statement M
 feed-spec =
@@ -64,12 +65,11 @@ feed-spec =
     bad-requires
     returns
     start-requires
-    skip-requires
-    find-requires
+    find-far-requires
     add-closes
     closes-requires
-    stays-requires
     same-length
     returns-2
+    stays-requires
     same-length-2
     returns-3)

@@ -1,0 +1,2 @@
+-- The laws of where a byte is found.
+pub mod First

@@ -1,0 +1,42 @@
+-- `skip` meets its contract. The loop's invariant: what is sought from `from` on is what is sought from i on.
+-- Assumes nothing.
+use mathlib.Core.Path.{_≡_, refl, _∙_}
+use Prim.Native.Nat.{_-_, _≤_}
+use native.Mathlib.Omega.{arith}
+use lib.ListN.{length}
+use Rattle.search.specs.First.{firstFrom}
+use Rattle.search.proofs.skip.Statement.{statement}
+use Rattle.search.proofs.skip.Tie as tie
+
+abbrev Inv-loop : tie.InvT-loop
+Inv-loop a from b i₀ i = (i ≤ length a) × (firstFrom b from a ≡ firstFrom b i a)
+
+abbrev μ-loop : tie.MeasureT-loop
+μ-loop a from b i₀ i = length a - i
+
+loop-holds : tie.Need-loop-holds Inv-loop μ-loop
+loop-holds c = (omega arith, refl)
+
+sub-loop : tie.Need-sub-loop Inv-loop μ-loop
+sub-loop c = omega arith
+
+has-requires : tie.Need-has-requires Inv-loop μ-loop
+has-requires c κs = omega arith
+
+returns : tie.Need-returns Inv-loop μ-loop
+returns c = c .before .before .before .loop .inv .1
+
+add-i : tie.Need-add-i Inv-loop μ-loop
+add-i c = omega arith
+
+loop-less : tie.Need-loop-less Inv-loop μ-loop
+loop-less c = omega arith
+
+loop-again : tie.Need-loop-again Inv-loop μ-loop
+loop-again c = (omega arith, c .before .before .before .loop .inv .1 ∙ c .before .has .ensures (c .if1 .left))
+
+returns-2 : tie.Need-returns-2 Inv-loop μ-loop
+returns-2 c = c .before .loop .inv .1
+
+pub skip-spec : {M : Type 1} → statement M
+skip-spec = tie.close (tie.spec Inv-loop μ-loop loop-holds sub-loop has-requires returns add-i loop-less loop-again returns-2)

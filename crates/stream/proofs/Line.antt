@@ -1,0 +1,107 @@
+-- The line, byte by byte, with no state but the bytes w of the frame that is open: none between two frames.
+-- What it says at each byte is what the calls say, however they are cut (proofs/Calls). Assumes nothing.
+use mathlib.Core.Path.{_≡_, refl, ap, _∙_}
+use mathlib.Core.Bool.{Bool, cond}
+use mathlib.Core.List.{List, [], _∷_, _++_, append-assoc, append-nil}
+use Prim.Native.Nat.{ℕ, zero, suc, _+_, _≤_, _<_}
+use native.Mathlib.Nat.{not-suc-le-zero, le-of-suc-le-suc, add-suc}
+use native.Mathlib.Numerals.{add-one}
+use lib.Dec.{eqb}
+use lib.ListN.{length, take, replicate, replicate-append-replicate}
+use Rattle.error.proofs.Cases.{by-test}
+use Rattle.search.specs.First.{indexOf}
+use Rattle.stream.specs.Stream.{Said, More, atLast, answerTo}
+
+-- the open frame after one more byte
+abbrev pub after : List ℕ → ℕ → List ℕ
+after [] b = cond (eqb b 0xF0) (b ∷ []) []
+after (x ∷ w) b = cond (eqb b 0xF1) [] (x ∷ (w ++ (b ∷ [])))
+
+-- what is said at that byte
+abbrev pub saidAt : ℕ → List ℕ → ℕ → Said
+saidAt H [] b = More
+saidAt H (x ∷ w) b = cond (eqb b 0xF1) (answerTo H (x ∷ (w ++ (b ∷ [])))) More
+
+abbrev pub opened : List ℕ → List ℕ → List ℕ
+opened w [] = w
+opened w (b ∷ c) = opened (after w b) c
+
+abbrev pub hear : ℕ → List ℕ → List ℕ → List Said
+hear H w [] = []
+hear H w (b ∷ c) = saidAt H w b ∷ hear H (after w b) c
+
+abbrev pub silence : ℕ → List Said
+silence n = replicate n More
+
+-- ---- stretches of bytes
+
+pub opened-append : (w x y : List ℕ) → opened w (x ++ y) ≡ opened (opened w x) y
+opened-append w [] y = refl
+opened-append w (b ∷ x) y = opened-append (after w b) x y
+
+module _ (H : ℕ) where
+  pub hear-append : (w x y : List ℕ) → hear H w (x ++ y) ≡ hear H w x ++ hear H (opened w x) y
+  hear-append w [] y = refl
+  hear-append w (b ∷ x) y = rw (hear-append (after w b) x y)
+
+  pub hear-length : (w x : List ℕ) → length (hear H w x) ≡ length x
+  hear-length w [] = refl
+  hear-length w (b ∷ x) = ap suc (hear-length (after w b) x)
+
+pub silent : (n : ℕ) → atLast n More ≡ silence n
+silent zero = refl
+silent (suc n) = replicate-append-replicate n 1 More ∙ rw (add-one n)
+
+pub at-last-add : (i n : ℕ) (a : Said) → atLast (i + suc n) a ≡ silence i ++ atLast (suc n) a
+at-last-add i n a = rw (add-suc i n, ← replicate-append-replicate i n More, append-assoc)
+
+-- ---- one frame
+
+-- between frames, up to the first F0
+pub dropped : (H : ℕ) (c : List ℕ) → (hear H [] (take (indexOf 0xF0 c) c) ≡ silence (indexOf 0xF0 c)) × (opened [] (take (indexOf 0xF0 c) c) ≡ [])
+unfolding indexOf
+dropped H [] = (refl, refl)
+dropped H (b ∷ c) =
+    by-test (eqb b 0xF0)
+    (λ e. (simp e, simp e))
+    (λ e.
+    let r = dropped H c in
+    (simp (e, r .0), rw e (ap (λ (t : Bool). opened (cond t (b ∷ []) []) (take (indexOf 0xF0 c) c)) e ∙ r .1)))
+
+module _ (H : ℕ) where
+  -- an open frame that meets no F1
+  pub goes-on : (x : ℕ) (w c : List ℕ) → length c ≤ indexOf 0xF1 c → (hear H (x ∷ w) c ≡ silence (length c)) × (opened (x ∷ w) c ≡ x ∷ (w ++ c))
+  unfolding indexOf
+  goes-on x w [] l = (refl, rw append-nil)
+  goes-on x w (b ∷ c) l =
+      by-test (eqb b 0xF1)
+      (λ e. absurd (not-suc-le-zero (rw e at l)))
+      (λ e.
+      let r = goes-on x (w ++ (b ∷ [])) c (le-of-suc-le-suc (rw e at l)) in
+      (simp (e, r .0), simp (e, r .1, append-assoc)))
+
+  -- an open frame up to its F1
+  pub closes : (x : ℕ) (w c : List ℕ) → indexOf 0xF1 c < length c → let n = suc (indexOf 0xF1 c) in
+      (hear H (x ∷ w) (take n c) ≡ atLast n (answerTo H (x ∷ (w ++ take n c)))) × (opened (x ∷ w) (take n c) ≡ [])
+  unfolding indexOf
+  closes x w [] l = absurd (not-suc-le-zero l)
+  closes x w (b ∷ c) l =
+      by-test (eqb b 0xF1)
+      (λ e. (simp e, simp e))
+      (λ e.
+      let r = closes x (w ++ (b ∷ [])) c (le-of-suc-le-suc (rw e at l)) in
+      (simp (e, r .0, append-assoc), simp (e, r .1)))
+
+  -- the same of a frame that opens at the first byte
+  pub opens-goes-on : (c : List ℕ) → suc (length c) ≤ indexOf 0xF1 (0xF0 ∷ c) → (hear H [] (0xF0 ∷ c) ≡ silence (suc (length c))) × (opened [] (0xF0 ∷ c) ≡ 0xF0 ∷ c)
+  unfolding indexOf
+  opens-goes-on c l =
+      let r = goes-on 0xF0 [] c (le-of-suc-le-suc l) in
+      (rw (r .0), r .1)
+
+  pub opens-closes : (c : List ℕ) → indexOf 0xF1 (0xF0 ∷ c) < suc (length c) → let n = suc (indexOf 0xF1 (0xF0 ∷ c)) in
+      (hear H [] (take n (0xF0 ∷ c)) ≡ atLast n (answerTo H (take n (0xF0 ∷ c)))) × (opened [] (take n (0xF0 ∷ c)) ≡ [])
+  unfolding indexOf
+  opens-closes c l =
+      let r = closes 0xF0 [] c (le-of-suc-le-suc l) in
+      (rw (r .0), r .1)

@@ -1,0 +1,3 @@
+-- What the theorems of `stream` are stated over.
+pub mod Stream
+pub mod Rust

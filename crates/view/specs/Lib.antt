@@ -1,0 +1,2 @@
+-- What the contract of `view` cites.
+pub mod View
