@@ -1,4 +1,4 @@
--- An interior taken apart: the header's bytes from the front, the checksum's from the back, the payload between.
+-- An interior taken apart: the header's bytes from the front, the checksum's from the back.
 -- Assumes nothing.
 use mathlib.Core.Path.{_≡_, refl, sym, ap, _∙_}
 use mathlib.Core.List.{List, [], _∷_, _++_}
@@ -13,14 +13,13 @@ use Rattle.error.specs.Refusal.{Told, yes, no, onYes}
 use Rattle.addr.specs.declared.BusAddr.{BusAddr}
 use Rattle.addr.specs.Address.{addressRule}
 use Rattle.stuffing.specs.Stuff.{unescapeOf, sum16}
-use Rattle.stuffing.specs.Unstuff.{after, unstuff, bytesOf, byteAt}
-use Rattle.stuffing.specs.Proper.{Proper, kept, widthOf, valueOf}
+use Rattle.stuffing.specs.Unstuff.{after, unstuff, bytesOf, byteAt, offsetAt}
+use Rattle.stuffing.specs.Proper.{Proper, none, byte, escape, kept, widthOf, valueOf}
 use Rattle.stuffing.proofs.Proper.{units, unstuff-proper, isYes, proper-of, length-units, kept-most}
 use Rattle.stuffing.proofs.Parting.{proper-append, kept-append, kept-none, unstuff-join, value-plain, FrontAt, front-at, cutOf, Back, back}
-use Rattle.frame.specs.Wire.{fields}
-use Rattle.frame.specs.Rule.{then, rawFrame, receivedOf, computedOf, payloadOf, addressesRule, headerOf}
-use Rattle.frame.specs.Walk.{raw, Starts, Ends, headRule}
-use Rattle.frame.proofs.Walking.{raw-proper}
+use Rattle.encoding.specs.Wire.{Fields, fields}
+use Rattle.checking.specs.Rule.{then, receivedOf, computedOf, payloadOf, addressesRule, head, headAt, unitsOf}
+use Rattle.checking.specs.Walk.{Ends, frontRule}
 
 -- ---- a byte
 
@@ -72,6 +71,13 @@ next-is s i j p h e =
     let f : FrontAt s i = front-at s i p h in
     rw e (record { proper = f .rest; inside = f .inside; one = f .one; is = f .is })
 
+-- what a string unstuffs to starts where the string does, or where it ends
+first-offset : (i n : ℕ) {s : List ℕ} (p : Proper s) → i + length s ≡ n → offsetAt (units i p ++ (0, n) ∷ []) 0 ≡ i
+unfolding units
+first-offset i n none e = omega (arith, e)
+first-offset i n (byte h p) e = refl
+first-offset i n (escape x h p) e = refl
+
 -- three bytes are there, and the places behind them
 module _ (s : List ℕ) (p : Proper s) (three : 3 ≤ kept s) where
   pub dest-inside : 0 < length s
@@ -101,29 +107,29 @@ module _ (s : List ℕ) (p : Proper s) (three : 3 ≤ kept s) where
         past-type : Next s b c
         past-type = next-is s b c type-proper type-inside ec
 
+        pub payload-inside : c ≤ length s
+        payload-inside = past-type .inside
+
         head-units : unstuff 0 s ≡ yes ((valueOf s, 0) ∷ (valueOf (drop a s), a) ∷ (valueOf (drop b s), b) ∷ units c (past-type .proper))
         head-units =
             past-dest .is
             ∙ ap (after 0 (yes (valueOf s)))
             (past-src .is ∙ ap (after a (yes (valueOf (drop a s)))) (past-type .is ∙ ap (after b (yes (valueOf (drop b s)))) (unstuff-proper c (past-type .proper))))
 
-        pub starts : Starts s c
-        starts =
-            record {
-              inside = past-type .inside;
-              rest = past-type .proper;
-              three = ap (onYes (λ us. drop 3 us)) head-units ∙ sym (unstuff-proper c (past-type .proper));
-            }
-
-      -- what the three of them tell
-      pub head-told : (len t : ℕ) (dest src : Told BusAddr) → dest ≡ addressRule (valueOf s) → src ≡ addressRule (valueOf (drop a s)) → t ≡ valueOf (drop b s)
-          → then dest (λ d. then src (λ r. yes (rawFrame d r t len))) ≡ then (unstuff 0 s) (headRule len)
-      unfolding headRule
-      head-told len t dest src de se te =
-          let same : then dest (λ d. then src (λ r. yes (rawFrame d r t len)))
-          ≡ then (addressRule (valueOf s)) (λ d. then (addressRule (valueOf (drop a s))) (λ r. yes (rawFrame d r (valueOf (drop b s)) len)))
-          = λ i. then (de i) (λ d. then (se i) (λ r. yes (rawFrame d r (te i) len))) in
-          same ∙ ap (λ (x : Told (List (ℕ × ℕ))). then x (headRule len)) (sym (head-units (b + widthOf (getD s b 0)) refl))
+      -- what the three of them tell, and the place behind them
+      pub head-told : (len t from : ℕ) (dest src : Told BusAddr) → dest ≡ addressRule (valueOf s) → src ≡ addressRule (valueOf (drop a s)) → t ≡ valueOf (drop b s)
+          → from ≡ b + widthOf (getD s b 0) → then dest (λ d. then src (λ r. yes (head d r t len (from + 1) (length s + 1)))) ≡ then (unstuff 0 s) (frontRule len (length s))
+      unfolding frontRule
+      head-told len t from dest src de se te fe =
+          let n = b + widthOf (getD s b 0) in
+          let past = past-type n refl in
+          let behind : n + length (drop n s) ≡ length s = omega (arith, past .inside, length-drop n s) in
+          let o : from ≡ offsetAt (units n (past .proper) ++ (0, length s) ∷ []) 0 = fe ∙ sym (first-offset n (length s) (past .proper) behind) in
+          let same : then dest (λ d. then src (λ r. yes (head d r t len (from + 1) (length s + 1))))
+          ≡ then (addressRule (valueOf s)) (λ d. then (addressRule (valueOf (drop a s)))
+          (λ r. yes (head d r (valueOf (drop b s)) len (offsetAt (units n (past .proper) ++ (0, length s) ∷ []) 0 + 1) (length s + 1))))
+          = λ i. then (de i) (λ d. then (se i) (λ r. yes (head d r (te i) len (o i + 1) (length s + 1)))) in
+          same ∙ ap (λ (x : Told (List (ℕ × ℕ))). then x (frontRule len (length s))) (sym (head-units n refl))
 
 -- ---- the two rules of the checksum and the head, by what precedes the checksum
 
@@ -131,11 +137,19 @@ bytes-append : (a b : List (ℕ × ℕ)) → bytesOf (a ++ b) ≡ bytesOf a ++ b
 bytes-append [] b = refl
 bytes-append (u ∷ a) b = ap (λ (l : List ℕ). u .0 ∷ l) (bytes-append a b)
 
-header-of : (d s : Told BusAddr) (type n : ℕ) (p : List ℕ) → length p ≡ n
-    → onYes headerOf (then d (λ dest. then s (λ src. yes (fields dest src type p)))) ≡ then d (λ dest. then s (λ src. yes (rawFrame dest src type n)))
-header-of (yes d) (yes s) type n p e = ap (λ (k : ℕ). yes (rawFrame d s type k)) e
-header-of (yes d) (no k vs) type n p e = refl
-header-of (no k vs) s type n p e = refl
+-- what a rule answers, with the places and lengths that it is told
+head-of : (us : List (ℕ × ℕ)) (d s : Told BusAddr) (type n from to : ℕ) (p : List ℕ) → length p ≡ n → offsetAt us 3 ≡ from → offsetAt us (length us - 2) ≡ to
+    → onYes (headAt us) (then d (λ dest. then s (λ src. yes (fields dest src type p)))) ≡ then d (λ dest. then s (λ src. yes (head dest src type n (from + 1) (to + 1))))
+head-of us (yes d) (yes s) type n from to p e f g = λ i. yes (head d s type (e i) (f i + 1) (g i + 1))
+head-of us (yes d) (no k vs) type n from to p e f g = refl
+head-of us (no k vs) s type n from to p e f g = refl
+
+-- the offset of a byte of the front, or of the first behind it
+next-offset : (u v : ℕ × ℕ) (r q ub : List (ℕ × ℕ)) (k : ℕ) → k ≤ length ub → u .1 ≡ v .1 → offsetAt (ub ++ u ∷ r) k ≡ offsetAt (ub ++ v ∷ q) k
+next-offset u v r q [] zero h e = e
+next-offset u v r q [] (suc k) h e = absurd (let x : ⊥ = omega arith in x)
+next-offset u v r q (w ∷ ub) zero h e = refl
+next-offset u v r q (w ∷ ub) (suc k) h e = next-offset u v r q ub k (omega arith) e
 
 module _ (ub : List (ℕ × ℕ)) (hi at lo o : ℕ) (three : 3 ≤ length ub) where
   abbrev tail : List (ℕ × ℕ)
@@ -170,17 +184,19 @@ module _ (ub : List (ℕ × ℕ)) (hi at lo o : ℕ) (three : 3 ≤ length ub) w
       (take-at (drop 3 (bytesOf ub)) (hi ∷ lo ∷ []) (length us - 5)
       (omega (arith, length-drop 3 (bytesOf ub), length-map ub (λ (u : ℕ × ℕ). u .0), length-us)))
 
-  pub head-is : (n : ℕ) → n ≡ length ub - 3 → onYes headerOf (addressesRule us) ≡ headRule n ub
-  unfolding addressesRule headRule
+  pub head-is : (n : ℕ) → n ≡ length ub - 3 → onYes (headAt us) (addressesRule us) ≡ frontRule n at ub
+  unfolding addressesRule frontRule
   head-is n e =
       let p : length (payloadOf us) ≡ n = ap length payload-is ∙ omega (arith, length-drop 3 (bytesOf ub), length-map ub (λ (u : ℕ × ℕ). u .0)) in
       let d = in-front 0 (omega arith) in
       let s = in-front 1 (omega arith) in
       let y = in-front 2 (omega arith) in
-      let same : onYes headerOf (addressesRule us)
-      ≡ onYes headerOf (then (addressRule (byteAt ub 0)) (λ dest. then (addressRule (byteAt ub 1)) (λ src. yes (fields dest src (byteAt ub 2) (payloadOf us)))))
-      = λ i. onYes headerOf (then (addressRule (d i .0)) (λ dest. then (addressRule (s i .0)) (λ src. yes (fields dest src (y i .0) (payloadOf us))))) in
-      same ∙ header-of (addressRule (byteAt ub 0)) (addressRule (byteAt ub 1)) (byteAt ub 2) n (payloadOf us) p
+      let from : offsetAt us 3 ≡ offsetAt (ub ++ (0, at) ∷ []) 3 = next-offset (hi, at) (0, at) ((lo, o) ∷ []) [] ub 3 three refl in
+      let to : offsetAt us (length us - 2) ≡ at = ap (λ (u : ℕ × ℕ). u .1) (at-end (length us - 2) 0 (omega (arith, length-us))) in
+      let same : onYes (headAt us) (addressesRule us)
+      ≡ onYes (headAt us) (then (addressRule (byteAt ub 0)) (λ dest. then (addressRule (byteAt ub 1)) (λ src. yes (fields dest src (byteAt ub 2) (payloadOf us)))))
+      = λ i. onYes (headAt us) (then (addressRule (d i .0)) (λ dest. then (addressRule (s i .0)) (λ src. yes (fields dest src (y i .0) (payloadOf us))))) in
+      same ∙ head-of us (addressRule (byteAt ub 0)) (addressRule (byteAt ub 1)) (byteAt ub 2) n (offsetAt (ub ++ (0, at) ∷ []) 3) at (payloadOf us) p from to
 
 -- ---- an interior with its checksum found
 
@@ -253,37 +269,7 @@ counted-yes s n e =
     let l : n ≡ length (units 0 p) = (let q : yes n ≡ yes (length (units 0 p)) = e ∙ ap (onYes length) u in cc) in
     record { us = units 0 p; is = u; length = l; proper = p; count = l ∙ length-units 0 p }
 
--- ---- the payload, between the head and the checksum
-
-bytes-drop : (n : ℕ) (us : List (ℕ × ℕ)) → drop n (bytesOf us) ≡ bytesOf (drop n us)
-bytes-drop zero us = refl
-bytes-drop (suc n) [] = refl
-bytes-drop (suc n) (u ∷ us) = bytes-drop n us
-
-module _ (s : List ℕ) (at : ℕ) (e : Ends s at) (from : ℕ) (st : Starts (take at s) from) (three : 3 ≤ length (body-units s at e)) where
-  behind-head : drop 3 (body-units s at e) ≡ units from (st .rest)
-  behind-head =
-      let q : yes (drop 3 (body-units s at e)) ≡ yes (units from (st .rest)) =
-      ap (onYes (λ us. drop 3 us)) (sym (unstuff-proper 0 (e .body))) ∙ st .three ∙ unstuff-proper from (st .rest) in
-      cc
-
-  pub payload-kept : kept (drop from (take at s)) + 5 ≡ kept s
-  payload-kept =
-      omega (
-        arith,
-        ap length behind-head,
-        length-drop 3 (body-units s at e),
-        length-units from (st .rest),
-        length-body s at e,
-        body-kept s at e,
-      )
-
-  pub payload-raw : onYes payloadOf (unstuff 0 s) ≡ yes (raw 0 (drop from (take at s)))
-  payload-raw =
-      let low = at + widthOf (getD s at 0) in
-      ap (onYes payloadOf) (units-are s at e)
-      ∙ ap yes
-      (payload-is (body-units s at e) (valueOf (drop at s)) at (valueOf (drop low s)) low three
-      ∙ bytes-drop 3 (body-units s at e)
-      ∙ ap bytesOf behind-head
-      ∙ sym (raw-proper from 0 (λ q. omega arith) (st .rest)))
+-- what is told of an interior's units, told of the interior
+pub head-through : (t : Told (List (ℕ × ℕ))) (rule : List (ℕ × ℕ) → Told Fields) → onYes (headAt (unitsOf t)) (then t rule) ≡ then t (λ us. onYes (headAt us) (rule us))
+head-through (yes us) rule = refl
+head-through (no k vs) rule = refl

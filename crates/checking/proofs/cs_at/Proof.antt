@@ -6,10 +6,10 @@ use lib.ListN.{length, take}
 use lib.Seq.{length-take-le}
 use Rattle.stuffing.proofs.Proper.{kept-most}
 use Rattle.stuffing.proofs.Parting.{cutOf}
-use Rattle.frame.specs.Walk.{Ends}
-use Rattle.frame.proofs.Reading.{ends}
-use Rattle.frame.proofs.cs_at.Statement.{statement}
-use Rattle.frame.proofs.cs_at.Tie as tie
+use Rattle.checking.specs.Walk.{Ends}
+use Rattle.checking.proofs.Reading.{ends}
+use Rattle.checking.proofs.cs_at.Statement.{statement}
+use Rattle.checking.proofs.cs_at.Tie as tie
 
 -- wherever the second cut is
 cuts : (c : tie.After-cut) → (c .cut .result < length (c .before .before .args .s .now)) × (2 ≤ c .cut .result) × (Ends (c .before .before .args .s .now) (cutOf (take (c .cut .result) (c .before .before .args .s .now))))

@@ -1,9 +1,9 @@
 -- `value` meets its contract: a byte that is not FD stands for itself, and FD for what its code says.
 use borrow.Author.Needs.{needs}
 use mathlib.Core.Path.{sym, _∙_}
-use Rattle.frame.proofs.Reading.{value-one, escape-inside, value-two}
-use Rattle.frame.proofs.value.Statement.{statement}
-use Rattle.frame.proofs.value.Tie as tie
+use Rattle.checking.proofs.Reading.{value-one, escape-inside, value-two}
+use Rattle.checking.proofs.value.Statement.{statement}
+use Rattle.checking.proofs.value.Tie as tie
 
 shared-slice-read-b : tie.Need-shared-slice-read-b
 shared-slice-read-b c = search needs

@@ -4,9 +4,9 @@ use mathlib.Core.Path.{ap, _∙_}
 use Prim.Native.Nat.{ℕ, _+_, _*_}
 use lib.ListN.{drop}
 use Rattle.stuffing.specs.Proper.{valueOf}
-use Rattle.frame.proofs.Reading.{high-inside, low-proper, low-inside}
-use Rattle.frame.proofs.received.Statement.{statement}
-use Rattle.frame.proofs.received.Tie as tie
+use Rattle.checking.proofs.Reading.{high-inside, low-proper, low-inside}
+use Rattle.checking.proofs.received.Statement.{statement}
+use Rattle.checking.proofs.received.Tie as tie
 
 value-requires : tie.Need-value-requires
 value-requires c κs =

@@ -1,12 +1,15 @@
 -- `check` meets its contract: each return is the rule's case.
 use borrow.Author.Needs.{needs}
-use mathlib.Core.Path.{_≡_}
+use mathlib.Core.Path.{_≡_, sym, _∙_}
 use Prim.Native.Nat.{_-_}
 use native.Mathlib.Omega.{arith}
 use lib.ListN.{length}
-use Rattle.frame.proofs.Cases.{short, bad-start, bad-end, framed}
-use Rattle.frame.proofs.check.Statement.{statement}
-use Rattle.frame.proofs.check.Tie as tie
+use Rattle.stuffing.specs.Unstuff.{unstuff}
+use Rattle.checking.specs.Rule.{interior, unitsRule}
+use Rattle.checking.proofs.Cases.{short, bad-start, bad-end, framed}
+use Rattle.checking.proofs.Reading.{head-through}
+use Rattle.checking.proofs.check.Statement.{statement}
+use Rattle.checking.proofs.check.Tie as tie
 
 returns : tie.Need-returns
 returns c = rw (short (c .before .before .args .wire .now) (c .if1 .taken))
@@ -50,7 +53,7 @@ returns-4 c =
     let i = j .before .before in
     let w = i .before .before .args .wire .now in
     let z : length w - 1 - 1 ≡ length w - 2 = omega arith in
-    rw (framed w (i .if1 .left) (j .if2 .left) (k .if3 .left)) (rw z at (c .check-interior .ensures))
+    rw (framed w (i .if1 .left) (j .if2 .left) (k .if3 .left)) (rw z at (c .check-interior .ensures) ∙ sym (head-through (unstuff 0 (interior w)) (unitsRule (length w) (interior w))))
 
 pub check-spec : {M : Type 1} → statement M
 check-spec =

@@ -10,13 +10,13 @@ use Rattle.error.specs.Refusal.{Told, no, onYes}
 use Rattle.stuffing.specs.Unstuff.{unstuff}
 use Rattle.stuffing.specs.Proper.{widthOf, valueOf}
 use Rattle.stuffing.proofs.Proper.{unstuff-proper}
-use Rattle.frame.specs.Wire.{Fields}
-use Rattle.frame.specs.Rule.{then, receivedOf, computedOf, addressesRule, sumRule, headerOf}
-use Rattle.frame.specs.Walk.{headRule}
-use Rattle.frame.proofs.Cases.{mismatch, matching}
-use Rattle.frame.proofs.Reading.{received-is, computed-is, head-is, body-units, units-are, body-kept, length-body}
-use Rattle.frame.proofs.check_sum.Statement.{statement}
-use Rattle.frame.proofs.check_sum.Tie as tie
+use Rattle.encoding.specs.Wire.{Fields}
+use Rattle.checking.specs.Rule.{then, receivedOf, computedOf, addressesRule, sumRule, headAt}
+use Rattle.checking.specs.Walk.{frontRule}
+use Rattle.checking.proofs.Cases.{mismatch, matching}
+use Rattle.checking.proofs.Reading.{received-is, computed-is, head-is, body-units, units-are, body-kept, length-body}
+use Rattle.checking.proofs.check_sum.Statement.{statement}
+use Rattle.checking.proofs.check_sum.Tie as tie
 
 -- the interior, with its checksum found
 module _ (c : tie.After-cs-at) where
@@ -41,8 +41,8 @@ module _ (c : tie.After-cs-at) where
   three : 3 ≤ length ub
   three = omega (arith, count, c .before .before .pre .2)
 
-  rule : (t : Told Fields) → sumRule S us ≡ t → onYes headerOf (then (unstuff 0 S) (sumRule S)) ≡ onYes headerOf t
-  rule t e = ap (λ (x : Told (List (ℕ × ℕ))). onYes headerOf (then x (sumRule S))) (units-are S at (c .cs-at .ensures)) ∙ ap (onYes headerOf) e
+  rule : (t : Told Fields) → sumRule S us ≡ t → then (unstuff 0 S) (λ vs. onYes (headAt vs) (sumRule S vs)) ≡ onYes (headAt us) t
+  rule t e = ap (λ (x : Told (List (ℕ × ℕ))). then x (λ vs. onYes (headAt vs) (sumRule S vs))) (units-are S at (c .cs-at .ensures)) ∙ ap (onYes (headAt us)) e
 
   whole : length (take at S) ≡ at
   whole = length-take-le at S (c .cs-at .ensures .inside)
@@ -96,7 +96,8 @@ returns-2 c =
     let on : receivedOf (us k) ≡ computedOf (S k) (us k) = sym (received h) ∙ i .if1 .left ∙ computed h in
     let n = k .before .before .args .n in
     c .check-head .ensures
-    ∙ ap (λ (x : Told (List (ℕ × ℕ))). then x (headRule (n - 5))) (unstuff-proper 0 (k .cs-at .ensures .body))
+    ∙ ap (λ (m : ℕ). then (unstuff 0 (take (at k) (S k))) (frontRule (n - 5) m)) (whole k)
+    ∙ ap (λ (x : Told (List (ℕ × ℕ))). then x (frontRule (n - 5) (at k))) (unstuff-proper 0 (k .cs-at .ensures .body))
     ∙ sym (head-is (ub k) (valueOf (drop (at k) (S k))) (at k) (valueOf (drop (low k) (S k))) (low k) (three k) (n - 5) (omega (arith, count k)))
     ∙ sym (rule k (addressesRule (us k)) (matching (us k) (S k) on))
 

@@ -4,8 +4,8 @@ use Prim.Native.Nat.{_-_}
 use native.Mathlib.Omega.{arith}
 use lib.ListN.{length, getD}
 use Rattle.stuffing.proofs.Unstuffing.{width-most}
-use Rattle.frame.proofs.cut.Statement.{statement}
-use Rattle.frame.proofs.cut.Tie as tie
+use Rattle.checking.proofs.cut.Statement.{statement}
+use Rattle.checking.proofs.cut.Tie as tie
 
 sub-select : tie.Need-sub-select
 sub-select c = search needs

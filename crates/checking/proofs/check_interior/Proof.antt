@@ -2,14 +2,15 @@
 use borrow.Author.Needs.{needs}
 use mathlib.Core.Path.{sym, ap, _∙_}
 use Prim.Native.Nat.{_≤_, _<_}
+use native.Mathlib.Omega.{arith}
 use lib.ListN.{length}
 use Rattle.error.specs.Refusal.{numberOf, valuesOf}
 use Rattle.error.specs.Result.{toldUsize}
 use Rattle.stuffing.specs.Unstuff.{unstuff}
-use Rattle.frame.proofs.Cases.{few, many}
-use Rattle.frame.proofs.Reading.{Counted, counted-no, counted-yes}
-use Rattle.frame.proofs.check_interior.Statement.{statement}
-use Rattle.frame.proofs.check_interior.Tie as tie
+use Rattle.checking.proofs.Cases.{few, many}
+use Rattle.checking.proofs.Reading.{Counted, counted-no, counted-yes}
+use Rattle.checking.proofs.check_interior.Statement.{statement}
+use Rattle.checking.proofs.check_interior.Tie as tie
 
 counted : (c : tie.After-known-told2) → Counted (c .before .before .before .before .before .args .s .now) (c .before .counted2 .given .0 .0)
 counted c =
@@ -27,7 +28,7 @@ enum-known-counted-2 c = search needs
 check-sum-requires : tie.Need-check-sum-requires
 check-sum-requires c κs =
     let k = counted (c .before) in
-    (k .proper, k .count, c .if1 .left)
+    (k .proper, k .count, omega (arith, c .if1 .left))
 
 returns : tie.Need-returns
 returns c =
