@@ -1,8 +1,7 @@
 -- What the frame rules imply.
 pub mod Cases
 pub mod Walking
-pub mod Reading
-pub mod Checked
+pub mod Parsed
 pub mod Wires
 pub mod Round
 pub mod One

@@ -15,7 +15,8 @@ use Rattle.stuffing.proofs.Stuffing.{stuff-append, stuff-least}
 use Rattle.stuffing.proofs.Unstuffing.{placed, unstuff-stuff, bytes-placed, length-placed, offset-placed}
 use Rattle.frame.specs.Wire.{Fields, fields, bodyOf, csOf, wireOf}
 use Rattle.frame.specs.Rule.{then, encodeRule, interior, receivedOf, computedOf, payloadOf, unitsRule, checkRule, parseRule}
-use Rattle.frame.proofs.Cases.{framed, many, matching, both-known, parse-fits}
+use Rattle.checking.proofs.Cases.{framed, many, matching, both-known}
+use Rattle.frame.proofs.Cases.{parse-fits}
 use Rattle.frame.proofs.Wires.{head, text, wire-is, written-is}
 
 interior-is : (m : List ℕ) → interior (0xF0 ∷ (m ++ (0xF1 ∷ []))) ≡ m

@@ -1,62 +1,20 @@
--- Document 01, 'Frames': what parsing answers, test by test in the paper's order; encoding's rule is `encoding`'s.
+-- Document 01, 'Frames': what parsing answers; the tests of a wire are `checking`'s and encoding's rule is `encoding`'s.
 -- A refusal is its number and values; a refused call writes nothing (`filled`).
-use Prim.Native.Nat.{ℕ, _+_, _-_, _*_}
-use mathlib.Core.Bool.{cond, not}
+use Prim.Native.Nat.{ℕ}
+use mathlib.Core.Bool.{cond}
 use mathlib.Core.List.{List, [], _∷_}
-use lib.Dec.{eqb, ltb}
-use lib.ListN.{length, getD, take, drop}
+use lib.Dec.{ltb}
+use lib.ListN.{length}
 use Rattle.error.specs.Refusal.{Told, yes, no, refused}
 use Rattle.addr.specs.declared.BusAddr.{BusAddr}
-use Rattle.addr.specs.Address.{addressRule}
-use Rattle.stuffing.specs.Stuff.{sum16}
-use Rattle.stuffing.specs.Unstuff.{unstuff, bytesOf, byteAt, offsetAt}
-use Rattle.encoding.specs.Wire.{Fields, fields}
+use Rattle.encoding.specs.Wire.{Fields}
 use Rattle.frame.specs.declared.RawFrame.{RawFrame}
 use Rattle.frame.specs.declared.ResultRawFrame.{ResultRawFrame}
 use Rattle.frame.specs.declared.ResultRawFrame.the-variants.{Ok, Err}
 pub use Rattle.encoding.specs.Encode.{filled}
 unfoldable pub use Rattle.encoding.specs.Encode.{encodeRule}
-
--- a test that comes after another
-abbrev pub then : {A B : Type 0} → Told A → (A → Told B) → Told B
-then (yes a) rule = rule a
-then (no k vs) rule = no k vs
-
--- what stands between the first and the last byte
-abbrev pub interior : List ℕ → List ℕ
-interior wire = take (length wire - 2) (drop 1 wire)
-
--- the checksum that came, the last two unstuffed bytes; and the sum of the stuffed bytes before it
-abbrev pub receivedOf : List (ℕ × ℕ) → ℕ
-receivedOf us = byteAt us (length us - 2) * 256 + byteAt us (length us - 1)
-
-abbrev pub computedOf : List ℕ → List (ℕ × ℕ) → ℕ
-computedOf inner us = sum16 (take (offsetAt us (length us - 2)) inner)
-
-abbrev pub payloadOf : List (ℕ × ℕ) → List ℕ
-payloadOf us = take (length us - 5) (drop 3 (bytesOf us))
-
--- DEST, then SRC (6)
-unfoldable pub addressesRule : List (ℕ × ℕ) → Told Fields
-addressesRule us =
-    then (addressRule (byteAt us 0)) (λ dest. then (addressRule (byteAt us 1)) (λ src. yes (fields dest src (byteAt us 2) (payloadOf us))))
-
--- checksum (5)
-unfoldable pub sumRule : List ℕ → List (ℕ × ℕ) → Told Fields
-sumRule inner us =
-    cond (not (eqb (receivedOf us) (computedOf inner us))) (no 5 (receivedOf us ∷ computedOf inner us ∷ [])) (addressesRule us)
-
--- fewer than five unstuffed bytes (1, with the wire length)
-unfoldable pub unitsRule : ℕ → List ℕ → List (ℕ × ℕ) → Told Fields
-unitsRule whole inner us = cond (ltb (length us) 5) (no 1 (whole ∷ [])) (sumRule inner us)
-
--- length below 7 (1); first byte (2); last byte (3); escapes, left to right (4)
-unfoldable pub checkRule : List ℕ → Told Fields
-checkRule wire =
-    cond (ltb (length wire) 7) (no 1 (length wire ∷ []))
-    (cond (not (eqb (getD wire 0 0) 0xF0)) (no 2 (getD wire 0 0 ∷ []))
-    (cond (not (eqb (getD wire (length wire - 1) 0) 0xF1)) (no 3 [])
-    (then (unstuff 0 (interior wire)) (unitsRule (length wire) (interior wire)))))
+pub use Rattle.checking.specs.Rule.{then, interior, receivedOf, computedOf, payloadOf}
+unfoldable pub use Rattle.checking.specs.Rule.{addressesRule, sumRule, unitsRule, checkRule}
 
 -- payload longer than the lent buffer (8)
 abbrev pub roomRule : ℕ → Fields → Told Fields

@@ -2,29 +2,23 @@
 // Each answers and writes what specs/Rule says; parsing what encoding wrote gives the fields back (proofs/Round).
 ghost use mathlib.Core.Path.{_≡_};
 ghost use mathlib.Core.List.{_++_};
-ghost use Prim.Native.Nat.{_+_, _-_, _*_, _<_, _≤_};
-ghost use lib.ListN.{length, take, drop, getD};
-ghost use Rattle.error.specs.Refusal.{yes, onYes};
+ghost use Prim.Native.Nat.{_+_, _≤_};
+ghost use lib.ListN.{length, take};
+ghost use Rattle.error.specs.Refusal.{onYes};
 ghost use Rattle.error.specs.Result.{toldUsize};
-ghost use Rattle.stuffing.specs.Unstuff.{unstuff};
-ghost use Rattle.stuffing.specs.Proper.{Proper, kept, widthOf, valueOf};
+ghost use Rattle.stuffing.specs.Proper.{kept};
 ghost use Rattle.frame.specs.Wire.{fields};
-ghost use Rattle.frame.specs.Rule.{filled, then, encodeRule, payloadOf, sumRule, unitsRule, checkRule, parseRule, headerOf, toldRawFrame};
-ghost use Rattle.frame.specs.Walk.{raw, slots, Starts, Ends, headRule};
+ghost use Rattle.frame.specs.Rule.{filled, encodeRule, parseRule, headerOf, toldRawFrame};
+ghost use Rattle.frame.specs.Walk.{raw, slots};
 use addr::BusAddr;
-use addr::ResultBusAddr;
+use checking::ResultHead;
+use checking::check;
 use error::ResultUsize;
 use error::WireError;
 use stuffing::block;
-use stuffing::checksum;
 use stuffing::put_block;
 use stuffing::select;
 use stuffing::unescape;
-use stuffing::unstuffed;
-
-const START: u8 = 0xF0;
-
-const END: u8 = 0xF1;
 
 const ESC: u8 = 0xFD;
 
@@ -104,156 +98,6 @@ fn copy(s: &[u8], buf: &mut [u8])
     walk(&s[i..], p, buf, o);
 }
 
-// ---- finding the way in a proper string
-
-// The unstuffed byte at a place, and the place after it.
-fn value(s: &[u8], i: usize) -> u8
-    requires { ⌜ (Proper (drop i (now s))) × (i < length (now s)) ⌝ }
-    ensures { λ r. ⌜ r ≡ valueOf (drop i (now (s .entry))) ⌝ }
-{
-    let b = s[i];
-    if b != ESC {
-        return b;
-    }
-    unescape(s[i + 1])
-}
-
-fn next(s: &[u8], i: usize) -> usize
-    requires { ⌜ i < length (now s) ⌝ }
-    ensures { λ r. ⌜ r ≡ i + widthOf (getD (now (s .entry)) i 0) ⌝ }
-{
-    i + select(s[i], ESC, 2, 1) as usize
-}
-
-// Where the last unstuffed byte starts.
-fn cut(s: &[u8]) -> usize
-    requires { ⌜ 2 ≤ length (now s) ⌝ }
-    ensures { λ r. ⌜ r ≡ length (now (s .entry)) - widthOf (getD (now (s .entry)) (length (now (s .entry)) - 2) 0) ⌝ }
-{
-    let n = s.len();
-    n - select(s[n - 2], ESC, 2, 1) as usize
-}
-
-// Where the checksum starts.
-fn cs_at(s: &[u8]) -> usize
-    requires { ⌜ (Proper (now s)) × (5 ≤ kept (now s)) ⌝ }
-    ensures { λ r. ⌜ Ends (now (s .entry)) r ⌝ }
-{
-    let low = cut(s);
-    cut(&s[..low])
-}
-
-// Where the payload starts, in what precedes the checksum.
-fn payload_at(body: &[u8]) -> usize
-    requires { ⌜ (Proper (now body)) × (3 ≤ kept (now body)) ⌝ }
-    ensures { λ r. ⌜ Starts (now (body .entry)) r ⌝ }
-{
-    let src_at = next(body, 0);
-    let type_at = next(body, src_at);
-    next(body, type_at)
-}
-
-// ---- checking a wire: its header and its payload's length
-
-fn received(s: &[u8], at: usize) -> u16
-    requires { ⌜ Ends (now s) at ⌝ }
-    ensures { λ r. ⌜ r ≡ valueOf (drop at (now (s .entry))) * 256 + valueOf (drop (at + widthOf (getD (now (s .entry)) at 0)) (now (s .entry))) ⌝ }
-{
-    let high = value(s, at);
-    let low = value(s, next(s, at));
-    (high as u16) * 256 + low as u16
-}
-
-fn check_head(body: &[u8], len: usize) -> ResultRawFrame
-    requires { ⌜ (Proper (now body)) × (3 ≤ kept (now body)) ⌝ }
-    ensures { λ r. ⌜ toldRawFrame r ≡ then (unstuff 0 (now (body .entry))) (headRule len) ⌝ }
-{
-    let src_at = next(body, 0);
-    let type_at = next(body, src_at);
-    let d = BusAddr::from_byte(value(body, 0));
-    let s = BusAddr::from_byte(value(body, src_at));
-    let type_id = value(body, type_at);
-    match d {
-        ResultBusAddr::Err(e) => ResultRawFrame::Err(e),
-        ResultBusAddr::Ok(dest) => match s {
-            ResultBusAddr::Err(e) => ResultRawFrame::Err(e),
-            ResultBusAddr::Ok(src) => ResultRawFrame::Ok(RawFrame {
-                dest,
-                src,
-                type_id,
-                len,
-            }),
-        },
-    }
-}
-
-fn check_sum(s: &[u8], n: usize) -> ResultRawFrame
-    requires { ⌜ (Proper (now s)) × (n ≡ kept (now s)) × (5 ≤ n) ⌝ }
-    ensures { λ r. ⌜ toldRawFrame r ≡ onYes headerOf (then (unstuff 0 (now (s .entry))) (sumRule (now (s .entry)))) ⌝ }
-{
-    let at = cs_at(s);
-    let expected = received(s, at);
-    let computed = checksum(&s[..at]);
-    if expected != computed {
-        return ResultRawFrame::Err(WireError::ChecksumMismatch { expected, computed });
-    }
-    check_head(&s[..at], n - 5)
-}
-
-fn check_interior(s: &[u8], whole: usize) -> ResultRawFrame
-    ensures { λ r. ⌜ toldRawFrame r ≡ onYes headerOf (then (unstuff 0 (now (s .entry))) (unitsRule whole (now (s .entry)))) ⌝ }
-{
-    let counted = unstuffed(s);
-    match counted {
-        ResultUsize::Err(e) => ResultRawFrame::Err(e),
-        ResultUsize::Ok(n) => {
-            if n < 5 {
-                ResultRawFrame::Err(WireError::FrameTooShort { len: whole })
-            } else {
-                check_sum(s, n)
-            }
-        }
-    }
-}
-
-fn check(wire: &[u8]) -> ResultRawFrame
-    ensures { λ r. ⌜ toldRawFrame r ≡ onYes headerOf (checkRule (now (wire .entry))) ⌝ }
-{
-    let n = wire.len();
-    if n < 7 {
-        return ResultRawFrame::Err(WireError::FrameTooShort { len: n });
-    }
-    let first = wire[0];
-    if first != START {
-        return ResultRawFrame::Err(WireError::MissingStart { got: first });
-    }
-    let end = n - 1;
-    if wire[end] != END {
-        return ResultRawFrame::Err(WireError::MissingEnd);
-    }
-    check_interior(&wire[1..end], n)
-}
-
-// ---- copying the payload of a wire that was checked
-
-fn copy_interior(s: &[u8], buf: &mut [u8])
-    requires { ⌜ (Proper (now s)) × (kept (now s) ≡ length (now buf) + 5) ⌝ }
-    ensures { λ r. ⌜ onYes payloadOf (unstuff 0 (now (s .entry))) ≡ yes (now (buf .exit)) ⌝ }
-{
-    let at = cs_at(s);
-    let body = &s[..at];
-    let from = payload_at(body);
-    copy(&body[from..], buf);
-}
-
-fn copy_payload(wire: &[u8], buf: &mut [u8])
-    requires { ⌜ onYes (λ f. f .len) (onYes headerOf (checkRule (now wire))) ≡ yes (length (now buf)) ⌝ }
-    ensures { λ r. ⌜ onYes (λ f. f .payload) (checkRule (now (wire .entry))) ≡ yes (now (buf .exit)) ⌝ }
-{
-    let end = wire.len() - 1;
-    copy_interior(&wire[1..end], buf);
-}
-
 impl RawFrame {
     // The wire of a frame at the buffer's front, and its length.
     pub fn encode(
@@ -276,9 +120,9 @@ impl RawFrame {
     {
         let checked = check(wire);
         match checked {
-            ResultRawFrame::Err(e) => ResultRawFrame::Err(e),
-            ResultRawFrame::Ok(frame) => {
-                let len = frame.len;
+            ResultHead::Err(e) => ResultRawFrame::Err(e),
+            ResultHead::Ok(head) => {
+                let len = head.len;
                 let room = payload.len();
                 if room < len {
                     return ResultRawFrame::Err(WireError::NoRoom {
@@ -286,8 +130,17 @@ impl RawFrame {
                         got: room,
                     });
                 }
-                copy_payload(wire, &mut payload[..len]);
-                ResultRawFrame::Ok(frame)
+                let from = head.from;
+                let to = head.to;
+                copy(&wire[from..to], &mut payload[..len]);
+                let dest = head.dest;
+                let src = head.src;
+                ResultRawFrame::Ok(RawFrame {
+                    dest,
+                    src,
+                    type_id: head.type_id,
+                    len,
+                })
             }
         }
     }

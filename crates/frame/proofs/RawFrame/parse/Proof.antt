@@ -3,29 +3,32 @@ use borrow.Author.Needs.{needs}
 use mathlib.Core.Path.{_≡_, refl, sym, ap, _∙_}
 use mathlib.Core.List.{_++_}
 use Prim.Native.Nat.{_≤_, _<_}
-use lib.ListN.{length, drop}
+use native.Mathlib.Omega.{arith}
+use lib.ListN.{length, take, drop}
 use lib.Seq.{length-take-le}
-use Rattle.error.specs.Refusal.{yes, onYes, numberOf, valuesOf}
-use Rattle.frame.specs.declared.RawFrame.{RawFrame}
-use Rattle.frame.specs.Rule.{checkRule, headerOf, toldRawFrame}
+use Rattle.error.specs.Refusal.{yes, numberOf, valuesOf}
+use Rattle.checking.specs.declared.Head.{Head}
+use Rattle.checking.specs.Rule.{toldHead}
+use Rattle.frame.specs.Rule.{checkRule, rawFrame}
 use Rattle.frame.proofs.Cases.{parse-refused, parse-room, parse-fits}
-use Rattle.frame.proofs.Checked.{Header, header-no, header-yes}
+use Rattle.frame.proofs.Parsed.{Held, held, head-no}
 use Rattle.frame.proofs.RawFrame.parse.Statement.{statement}
 use Rattle.frame.proofs.RawFrame.parse.Tie as tie
 
--- a frame that was answered: what it tells, and the fields behind it
+-- a head that was answered: what it tells, and the fields behind it
 module _ (c : tie.After-known-told2) where
-  abbrev frame : RawFrame
-  frame = c .before .checked2 .given .0 .0
+  abbrev head : Head
+  head = c .before .checked2 .given .0 .0
 
   abbrev start : tie.Start
   start = c .before .before .before .before .before .before
 
-  told : yes frame ≡ onYes headerOf (checkRule (start .args .wire .now))
-  told = ap toldRawFrame (sym (c .before .checked2 .given .1)) ∙ c .before .before .before .check .ensures
+  seen : Held (start .args .wire .now) head
+  seen = held (start .args .wire .now) head (ap toldHead (sym (c .before .checked2 .given .1)) ∙ c .before .before .before .check .ensures)
 
-  header : Header (checkRule (start .args .wire .now)) frame
-  header = header-yes (checkRule (start .args .wire .now)) frame told
+-- the lent part of the buffer is as long as the payload
+room : (c : tie.Else1) → length (take (head (c .before) .len) (start (c .before) .args .payload .now)) ≡ head (c .before) .len
+room c = length-take-le (head (c .before) .len) (start (c .before) .args .payload .now) (omega (arith, c .if1 .left))
 
 check-requires : tie.Need-check-requires
 check-requires c κs = search needs
@@ -38,32 +41,40 @@ enum-known-checked-2 c = search needs
 
 returns : tie.Need-returns
 returns c =
-    let h = header (c .before) in
+    let h = seen (c .before) in
     let a = start (c .before) in
     let short : length (a .args .payload .now) < length (h .value .payload) = rw (← h .len) (c .if1 .taken) in
     rw (parse-room (a .args .wire .now) (length (a .args .payload .now)) (h .value) (h .is) short, ← h .len) (refl, refl)
 
-slice-relend-prefix-copy-payload : tie.Need-slice-relend-prefix-copy-payload
-slice-relend-prefix-copy-payload c = search needs
+sub-copy : tie.Need-sub-copy
+sub-copy c = seen (c .before) .ordered
 
-slice-aggregate-copy-payload : tie.Need-slice-aggregate-copy-payload
-slice-aggregate-copy-payload c =
-    let i = c .before in
-    sym (length-take-le (frame (i .before) .len) (start (i .before) .args .payload .now) (i .if1 .left))
+part-copy-start : tie.Need-part-copy-start
+part-copy-start c = omega (arith, seen (c .before) .ordered, seen (c .before) .inside)
 
-copy-payload-requires : tie.Need-copy-payload-requires
-copy-payload-requires c κs =
-    let i = c .before in
-    let k = i .before in
-    ap (onYes (λ f. f .len)) (sym (told k)) ∙ ap yes (sym (length-take-le (frame k .len) (start k .args .payload .now) (i .if1 .left)))
+part-copy-end : tie.Need-part-copy-end
+part-copy-end c = omega (arith, seen (c .before) .ordered, seen (c .before) .inside)
+
+slice-relend-prefix-copy : tie.Need-slice-relend-prefix-copy
+slice-relend-prefix-copy c = search needs
+
+slice-aggregate-copy : tie.Need-slice-aggregate-copy
+slice-aggregate-copy c = sym (room (c .before .before))
+
+copy-requires : tie.Need-copy-requires
+copy-requires c κs =
+    let i = c .before .before in
+    let h = seen (i .before) in
+    (omega (arith, h .count, h .len, room i), omega (arith, h .touched, h .len, room i))
 
 returns-2 : tie.Need-returns-2
 returns-2 c =
     let k = c .before .before .before in
     let a = k .before .before .before in
+    let w = a .args .wire .now in
     let e = c .before .checked .given .0 .0 in
-    let t = header-no (checkRule (a .args .wire .now)) (numberOf e) (valuesOf e) (ap toldRawFrame (sym (c .before .checked .given .1)) ∙ k .check .ensures) in
-    rw (parse-refused (a .args .wire .now) (length (a .args .payload .now)) (numberOf e) (valuesOf e) t) (refl, refl)
+    let t = head-no (checkRule w) w (numberOf e) (valuesOf e) (ap toldHead (sym (c .before .checked .given .1)) ∙ k .check .ensures) in
+    rw (parse-refused w (length (a .args .payload .now)) (numberOf e) (valuesOf e) t) (refl, refl)
 
 same-length : tie.Need-same-length
 same-length c = search needs
@@ -71,15 +82,15 @@ same-length c = search needs
 returns-3 : tie.Need-returns-3
 returns-3 c =
     let p = c .before .before in
-    let i = p .before .before in
+    let i = p .before .before .before in
     let k = i .before in
-    let h = header k in
+    let h = seen k in
     let w = start k .args .wire .now in
     let old = start k .args .payload .now in
-    let fits : length (h .value .payload) ≤ length old = rw (← h .len) (i .if1 .left) in
-    let q : yes (p .copy-payload .last .1 .0) ≡ yes (h .value .payload) = sym (p .copy-payload .ensures) ∙ ap (onYes (λ f. f .payload)) (h .is) in
-    let e : p .copy-payload .last .1 .0 ≡ h .value .payload = cc in
-    rw (parse-fits w (length old) (h .value) (h .is) fits) (ap yes (h .told), λ j. e j ++ drop (h .len j) old)
+    let fits : length (h .value .payload) ≤ length old = omega (arith, h .len, i .if1 .left) in
+    let e = p .copy .ensures ∙ h .bytes in
+    rw (parse-fits w (length old) (h .value) (h .is) fits)
+    (ap (λ (x : Head). yes (rawFrame (x .dest) (x .src) (x .«type_id») (x .len))) (h .told), λ j. e j ++ drop (h .len j) old)
 
 pub parse-spec : {M : Type 1} → statement M
 parse-spec =
@@ -89,9 +100,12 @@ parse-spec =
     enum-known-checked
     enum-known-checked-2
     returns
-    slice-relend-prefix-copy-payload
-    slice-aggregate-copy-payload
-    copy-payload-requires
+    sub-copy
+    part-copy-start
+    part-copy-end
+    slice-relend-prefix-copy
+    slice-aggregate-copy
+    copy-requires
     returns-2
     same-length
     returns-3)

@@ -1,0 +1,25 @@
+-- Words for the private walks over a wire's interior; no public contract cites them.
+-- `Ends` is where the checksum starts, `frontRule` what is tested and told of the bytes before it.
+use Prim.Native.Nat.{ℕ, _+_, _≤_}
+use mathlib.Core.Path.{_≡_}
+use mathlib.Core.List.{List, [], _∷_, _++_}
+use lib.ListN.{length, take, drop}
+use Rattle.error.specs.Refusal.{Told, yes}
+use Rattle.addr.specs.Address.{addressRule}
+use Rattle.stuffing.specs.Unstuff.{byteAt, offsetAt}
+use Rattle.stuffing.specs.Proper.{Proper, kept}
+use Rattle.checking.specs.declared.Head.{Head}
+use Rattle.checking.specs.Rule.{then, head}
+
+-- an interior whose checksum, two unstuffed bytes, starts at a place
+pub record Ends (s : List ℕ) (at : ℕ) : Type 0 where
+  pub inside : at ≤ length s
+  pub body : Proper (take at s)
+  pub sum : Proper (drop at s)
+  pub two : kept (drop at s) ≡ 2
+
+-- DEST, then SRC: of what precedes the checksum, which starts at a place, with the payload's length
+unfoldable pub frontRule : ℕ → ℕ → List (ℕ × ℕ) → Told Head
+frontRule len at us =
+    then (addressRule (byteAt us 0))
+    (λ dest. then (addressRule (byteAt us 1)) (λ src. yes (head dest src (byteAt us 2) len (offsetAt (us ++ (0, at) ∷ []) 3 + 1) (at + 1))))

@@ -1,0 +1,77 @@
+-- What parsing takes is what checking takes, with room for the payload; where a wire is told to have its payload, it stands.
+-- Assumes nothing.
+use mathlib.Core.Path.{_≡_, refl, sym, ap, _∙_, subst}
+use mathlib.Core.List.{List, [], _∷_}
+use Prim.Native.Nat.{ℕ, _-_, _≤_}
+use native.Mathlib.Omega.{arith}
+use lib.Dec.{ltb}
+use lib.ListN.{length, take, drop, length-map}
+use borrow.Author.Tests.{ltb-false}
+use Rattle.error.specs.Refusal.{Told, yes, no, onYes}
+use Rattle.stuffing.specs.Unstuff.{bytesOf}
+use Rattle.stuffing.specs.Proper.{kept}
+use Rattle.stuffing.proofs.Proper.{units, unstuff-proper, length-units}
+use Rattle.checking.specs.declared.Head.{Head}
+use Rattle.checking.specs.Rule.{headOf}
+use Rattle.checking.proofs.Checked.{Checked, checked, passed, got}
+use Rattle.checking.proofs.Located.{Located, located}
+use Rattle.frame.specs.Wire.{Fields}
+use Rattle.frame.specs.Rule.{checkRule, roomRule, parseRule}
+use Rattle.frame.specs.Walk.{raw, slots}
+use Rattle.frame.proofs.Walking.{raw-proper, slots-proper}
+
+pub parsed : (w : List ℕ) (room : ℕ) (f : Fields) → parseRule w room ≡ yes f → (Checked w f) × (length (f .payload) ≤ room)
+unfolding parseRule
+parsed w room f e =
+    let c = got (checkRule w) (roomRule room) f e in
+    let r = passed (ltb room (length (c .value .payload))) 8 (length (c .value .payload) ∷ room ∷ []) (yes (c .value)) f (c .then) in
+    let z : c .value ≡ f = (let q = r .1 in cc) in
+    (checked w f (c .is ∙ ap yes z), rw (ap (λ (q : Fields). length (q .payload)) z) at (ltb-false room (length (c .value .payload)) (r .0)))
+
+-- ---- a head that was answered, and the fields behind it
+
+pub head-no : (t : Told Fields) (w : List ℕ) (k : ℕ) (vs : List ℕ) → no k vs ≡ onYes (headOf w) t → t ≡ no k vs
+head-no (yes f) w k vs e = let z : _≡_ {A = ℕ} 0 1 = cc in absurd (let q : ⊥ = omega arith in q)
+head-no (no l ws) w k vs e = cc
+
+-- its payload's stuffed bytes
+abbrev pub partOf : List ℕ → Head → List ℕ
+partOf w h = take (h .to - h .from) (drop (h .from) w)
+
+pub record Held (w : List ℕ) (h : Head) : Type 0 where
+  pub value : Fields
+  pub is : checkRule w ≡ yes value
+  pub told : h ≡ headOf w value
+  pub len : h .len ≡ length (value .payload)
+  pub ordered : h .from ≤ h .to
+  pub inside : h .to ≤ length w
+  pub count : kept (partOf w h) ≡ length (value .payload)
+  pub touched : slots (partOf w h) ≡ length (value .payload)
+  pub bytes : raw 0 (partOf w h) ≡ value .payload
+
+-- of a wire that passes
+held-by : (w : List ℕ) (f : Fields) → checkRule w ≡ yes f → Located w f → Held w (headOf w f)
+held-by w f e l =
+    let p = l .proper in
+    let b : bytesOf (units 0 p) ≡ f .payload = (let q : yes (bytesOf (units 0 p)) ≡ yes (f .payload) = sym (ap (onYes bytesOf) (unstuff-proper 0 p)) ∙ l .bytes in cc) in
+    let n : kept (partOf w (headOf w f)) ≡ length (f .payload) = sym (length-units 0 p) ∙ sym (length-map (units 0 p) (λ (u : ℕ × ℕ). u .0)) ∙ ap length b in
+    record {
+      value = f;
+      is = e;
+      told = refl;
+      len = refl;
+      ordered = l .ordered;
+      inside = l .inside;
+      count = n;
+      touched = slots-proper (partOf w (headOf w f)) p ∙ n;
+      bytes = raw-proper 0 0 (λ q. omega arith) p ∙ b;
+    }
+
+held-yes : (t : Told Fields) (w : List ℕ) (h : Head) → checkRule w ≡ t → yes h ≡ onYes (headOf w) t → Held w h
+held-yes (yes f) w h e g =
+    let q : headOf w f ≡ h = cc in
+    subst (Held w) q (held-by w f e (located w f (checked w f e)))
+held-yes (no k vs) w h e g = let z : _≡_ {A = ℕ} 0 1 = cc in absurd (let q : ⊥ = omega arith in q)
+
+pub held : (w : List ℕ) (h : Head) → yes h ≡ onYes (headOf w) (checkRule w) → Held w h
+held w h e = held-yes (checkRule w) w h refl e
