@@ -5,9 +5,9 @@ use lib.Seq.{length-take-le}
 use mathlib.Core.List.{[], _∷_}
 use mir.Syntax.{w32}
 use Rattle.layout.proofs.Held.{held}
-use Rattle.spin.specs.Tables.{trackingOf}
-use Rattle.spin.proofs.read_tracking.Statement.{statement}
-use Rattle.spin.proofs.read_tracking.Tie as tie
+use Rattle.tracking.specs.Table.{trackingOf}
+use Rattle.tracking.proofs.read_tracking.Statement.{statement}
+use Rattle.tracking.proofs.read_tracking.Tie as tie
 
 slice-aggregate-d : tie.Need-slice-aggregate-d
 slice-aggregate-d c = sym (length-take-le 82 (c .before .before .args .payload .now) (c .before .before .pre))

@@ -1,9 +1,9 @@
 -- `zero_tracking` meets its contract.
 -- Assumes nothing.
 use mathlib.Core.Path.{refl}
-use Rattle.spin.specs.Tables.{trackingOf}
-use Rattle.spin.proofs.zero_tracking.Statement.{statement}
-use Rattle.spin.proofs.zero_tracking.Tie as tie
+use Rattle.tracking.specs.Table.{trackingOf}
+use Rattle.tracking.proofs.zero_tracking.Statement.{statement}
+use Rattle.tracking.proofs.zero_tracking.Tie as tie
 
 returns : tie.Need-returns
 unfolding trackingOf

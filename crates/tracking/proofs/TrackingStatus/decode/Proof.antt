@@ -1,9 +1,9 @@
 -- `TrackingStatus::decode` meets its contract, on either side of the least length.
 -- Assumes nothing.
 use Rattle.layout.proofs.Lengths.{short, whole}
-use Rattle.spin.specs.Tables.{trackingOf}
-use Rattle.spin.proofs.TrackingStatus.decode.Statement.{statement}
-use Rattle.spin.proofs.TrackingStatus.decode.Tie as tie
+use Rattle.tracking.specs.Table.{trackingOf}
+use Rattle.tracking.proofs.TrackingStatus.decode.Statement.{statement}
+use Rattle.tracking.proofs.TrackingStatus.decode.Tie as tie
 
 returns : tie.Need-returns
 returns c = short trackingOf 0xE9 82 (c .before .before .before .args .payload .now) (c .before .if1 .taken) (c .zero-tracking .ensures)
