@@ -4,8 +4,8 @@ use mathlib.Core.Bool.{true, false}
 use lib.Dec.{T}
 use lib.Ieee.{Float, nan, inf, fin, isNan, ne, ofBits}
 use lib.Ieee.Compare.{differs-from-itself, nan-differs}
-use Rattle.flight.proofs.failure.no_speed.Statement.{statement}
-use Rattle.flight.proofs.failure.no_speed.Tie as tie
+use Rattle.failure.proofs.no_speed.Statement.{statement}
+use Rattle.failure.proofs.no_speed.Tie as tie
 
 differs : (x : Float) → ne x x ≡ true → isNan x ≡ true
 unfolding isNan
