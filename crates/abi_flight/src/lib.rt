@@ -1,6 +1,9 @@
 // D4, E8 and ED for C: each call is the decoder of that message, its record's numbers in two lent arrays.
 // What it tells, and every lent place, is that decoder's rule; what stands where is specs/Records.
 ghost use mathlib.Core.Path.{_≡_};
+ghost use Prim.Native.Nat.{_+_, _≤_};
+ghost use lib.ListN.{length};
+ghost use lib.Seq.{sets};
 ghost use Rattle.flight.specs.Decoding.{decodeRule};
 ghost use Rattle.flight.specs.FlightResultFields.{flightResult};
 ghost use Rattle.flight.specs.FlightResultV1Fields.{flightResultV1};
@@ -211,7 +214,7 @@ fn club_figures(r: ClubResult) -> [f64; 53]
     ensures { λ x. ⌜ x ≡ clubFigures r ⌝ }
 {
     let c = r.poly_coeffs;
-    [
+    let mut figures = [
         r.pre_club_speed,
         r.post_club_speed,
         r.strike_direction,
@@ -226,44 +229,58 @@ fn club_figures(r: ClubResult) -> [f64; 53]
         r.club_elevation,
         r.club_offset,
         r.club_height,
-        c[0],
-        c[1],
-        c[2],
-        c[3],
-        c[4],
-        c[5],
-        c[6],
-        c[7],
-        c[8],
-        c[9],
-        c[10],
-        c[11],
-        c[12],
-        c[13],
-        c[14],
-        c[15],
-        c[16],
-        c[17],
-        c[18],
-        c[19],
-        c[20],
-        c[21],
-        c[22],
-        c[23],
-        c[24],
-        c[25],
-        c[26],
-        c[27],
-        c[28],
-        c[29],
-        c[30],
-        c[31],
-        c[32],
-        c[33],
-        c[34],
-        c[35],
+        0.0,
+        0.0,
+        0.0,
+        0.0,
+        0.0,
+        0.0,
+        0.0,
+        0.0,
+        0.0,
+        0.0,
+        0.0,
+        0.0,
+        0.0,
+        0.0,
+        0.0,
+        0.0,
+        0.0,
+        0.0,
+        0.0,
+        0.0,
+        0.0,
+        0.0,
+        0.0,
+        0.0,
+        0.0,
+        0.0,
+        0.0,
+        0.0,
+        0.0,
+        0.0,
+        0.0,
+        0.0,
+        0.0,
+        0.0,
+        0.0,
+        0.0,
         r.pre_impact_time,
         r.post_impact_time,
         r.club_to_ball_time,
-    ]
+    ];
+    lay(&c[..], 14, &mut figures[..]);
+    figures
+}
+
+// A row of numbers into a list, from a place on.
+fn lay(xs: &[f64], at: usize, out: &mut [f64])
+    requires { ⌜ at + length (now xs) ≤ length (now out) ⌝ }
+    ensures { λ _. ⌜ now (out .exit) ≡ sets (now (out .entry)) at (now (xs .entry)) ⌝ }
+{
+    let mut i = 0;
+    while i < xs.len() {
+        out[at + i] = xs[i];
+        i += 1;
+    }
 }

@@ -6,7 +6,7 @@ use lib.IntN.{ℤ, pos}
 use lib.Ieee.{Float}
 use Rattle.prc.specs.declared.PrcPoint.{PrcPoint}
 use Rattle.prc.specs.declared.PrcData.{PrcData}
-use Rattle.prc.specs.declared.ClubPrcPoint.{ClubPrcPoint}
+use Rattle.club_prc.specs.declared.ClubPrcPoint.{ClubPrcPoint}
 
 abbrev pub dataNumbers : PrcData → ℤ × ℕ
 dataNumbers d = (d .sequence, d .points)

@@ -7,7 +7,7 @@ use lib.Ieee.{Float}
 use Rattle.speed.specs.declared.SpeedProfile.{SpeedProfile}
 use Rattle.spin.specs.declared.AntennaElement.{AntennaElement}
 use Rattle.spin.specs.declared.SpinResult.{SpinResult}
-use Rattle.spin.specs.declared.TrackingStatus.{TrackingStatus}
+use Rattle.tracking.specs.declared.TrackingStatus.{TrackingStatus}
 
 -- spin and signal-to-noise of each element
 abbrev pub elementsWhole : List AntennaElement → List ℤ

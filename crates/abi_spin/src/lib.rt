@@ -5,7 +5,8 @@ ghost use lib.ListN.{length};
 ghost use lib.Seq.{sets};
 ghost use Rattle.error.specs.Refusal.{onYes};
 ghost use Rattle.layout.specs.Layout.{answered, sourceOf};
-ghost use Rattle.spin.specs.Tables.{spinOf, trackingOf};
+ghost use Rattle.spin.specs.Tables.{spinOf};
+ghost use Rattle.tracking.specs.Table.{trackingOf};
 ghost use Rattle.speed.specs.Profile.{speedRule, speedsAfter};
 ghost use Rattle.abi.specs.Answer.{Passed};
 ghost use Rattle.abi_spin.specs.Numbers.{elementsWhole, spinRest, spinWhole, spinFigures, spinNumbers, trackingCounts, trackingWhole, trackingNumbers, profileWhole, profileNumbers};
@@ -17,7 +18,7 @@ use speed::ResultSpeedProfile;
 use speed::SpeedProfile;
 use spin::AntennaElement;
 use spin::SpinResult;
-use spin::TrackingStatus;
+use tracking::TrackingStatus;
 
 #[no_mangle]
 pub extern "C" fn mvd_spin_result(

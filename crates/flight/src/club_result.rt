@@ -12,7 +12,6 @@ use error::WireError;
 use integer::byte_at;
 use integer::int24_at;
 use numbers::DIVISORS;
-use numbers::ED;
 use numbers::Message;
 use numbers::scale;
 
@@ -93,7 +92,7 @@ impl ClubResult {
         }
     }
 
-    // The record of a payload that is long enough, by these divisors and this scale.
+    // The record of a payload that is long enough, by these divisors and this scale: place and entry stand as numbers.
     fn of(p: &[u8], by: &[u32; 138], s: f64) -> ClubResult
         requires { ⌜ 167 ≤ length (now p) ⌝ }
         ensures { λ r. ⌜ r ≡ clubResult (numbersIn Message.ClubResult (now (p .entry)) (now (by .entry)) s) ⌝ }
@@ -101,25 +100,25 @@ impl ClubResult {
         ClubResult {
             num_club_prc_points: byte_at(p, 1),
             flags: int24_at(p, 2),
-            pre_club_speed: figure_at(p, 5, by, ED + 1, s),
-            post_club_speed: figure_at(p, 8, by, ED + 2, s),
-            strike_direction: figure_at(p, 11, by, ED + 3, s),
-            attack_angle: figure_at(p, 14, by, ED + 4, s),
-            face_angle: figure_at(p, 17, by, ED + 5, s),
-            dynamic_loft: figure_at(p, 20, by, ED + 6, s),
-            smash_factor: figure_at(p, 23, by, ED + 7, s),
-            dispersion_correction: figure_at(p, 26, by, ED + 8, s),
-            swing_plane_horizontal: figure_at(p, 29, by, ED + 9, s),
-            swing_plane_vertical: figure_at(p, 32, by, ED + 10, s),
-            club_azimuth: figure_at(p, 35, by, ED + 11, s),
-            club_elevation: figure_at(p, 38, by, ED + 12, s),
-            club_offset: figure_at(p, 41, by, ED + 13, s),
-            club_height: figure_at(p, 44, by, ED + 14, s),
+            pre_club_speed: figure_at(p, 5, by, 84, s),
+            post_club_speed: figure_at(p, 8, by, 85, s),
+            strike_direction: figure_at(p, 11, by, 86, s),
+            attack_angle: figure_at(p, 14, by, 87, s),
+            face_angle: figure_at(p, 17, by, 88, s),
+            dynamic_loft: figure_at(p, 20, by, 89, s),
+            smash_factor: figure_at(p, 23, by, 90, s),
+            dispersion_correction: figure_at(p, 26, by, 91, s),
+            swing_plane_horizontal: figure_at(p, 29, by, 92, s),
+            swing_plane_vertical: figure_at(p, 32, by, 93, s),
+            club_azimuth: figure_at(p, 35, by, 94, s),
+            club_elevation: figure_at(p, 38, by, 95, s),
+            club_offset: figure_at(p, 41, by, 96, s),
+            club_height: figure_at(p, 44, by, 97, s),
             poly_scale: int24_at(p, 47),
-            poly_coeffs: figures36(p, 50, by[ED + 16], s),
-            pre_impact_time: figure_at(p, 158, by, ED + 52, s),
-            post_impact_time: figure_at(p, 161, by, ED + 53, s),
-            club_to_ball_time: figure_at(p, 164, by, ED + 54, s),
+            poly_coeffs: figures36(p, 50, by[99], s),
+            pre_impact_time: figure_at(p, 158, by, 135, s),
+            post_impact_time: figure_at(p, 161, by, 136, s),
+            club_to_ball_time: figure_at(p, 164, by, 137, s),
         }
     }
 

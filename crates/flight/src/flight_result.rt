@@ -6,14 +6,13 @@ ghost use lib.ListN.{length};
 ghost use Rattle.flight.specs.Decoding.{decodeRule, numbersIn, zeros};
 ghost use Rattle.flight.specs.FlightResultFields.{flightResult, toldFlightResult};
 ghost use Rattle.flight.specs.Failure.{modelFailure};
-use crate::failure::no_speed;
 use crate::figures::figure_at;
 use crate::figures::figures3;
 use crate::figures::figures5;
 use error::ResultUnit;
 use error::WireError;
+use failure::no_speed;
 use integer::int24_at;
-use numbers::D4;
 use numbers::DIVISORS;
 use numbers::Message;
 use numbers::scale;
@@ -126,42 +125,42 @@ impl FlightResult {
         }
     }
 
-    // The record of a payload that is long enough, by these divisors and this scale.
+    // The record of a payload that is long enough, by these divisors and this scale: place and entry stand as numbers.
     fn of(p: &[u8], by: &[u32; 138], s: f64) -> FlightResult
         requires { ⌜ 157 ≤ length (now p) ⌝ }
         ensures { λ r. ⌜ r ≡ flightResult (numbersIn Message.FlightResult (now (p .entry)) (now (by .entry)) s) ⌝ }
     {
         FlightResult {
             total: int24_at(p, 1),
-            track_time: figure_at(p, 4, by, D4 + 1, s),
-            start_position: figures3(p, 7, by, D4 + 2, s),
-            launch_speed: figure_at(p, 16, by, D4 + 5, s),
-            launch_azimuth: figure_at(p, 19, by, D4 + 6, s),
-            launch_elevation: figure_at(p, 22, by, D4 + 7, s),
-            carry_distance: figure_at(p, 25, by, D4 + 8, s),
-            flight_time: figure_at(p, 28, by, D4 + 9, s),
-            max_height: figure_at(p, 31, by, D4 + 10, s),
-            landing_position: figures3(p, 34, by, D4 + 11, s),
+            track_time: figure_at(p, 4, by, 1, s),
+            start_position: figures3(p, 7, by, 2, s),
+            launch_speed: figure_at(p, 16, by, 5, s),
+            launch_azimuth: figure_at(p, 19, by, 6, s),
+            launch_elevation: figure_at(p, 22, by, 7, s),
+            carry_distance: figure_at(p, 25, by, 8, s),
+            flight_time: figure_at(p, 28, by, 9, s),
+            max_height: figure_at(p, 31, by, 10, s),
+            landing_position: figures3(p, 34, by, 11, s),
             backspin_rpm: int24_at(p, 43),
             sidespin_rpm: int24_at(p, 46),
             riflespin_rpm: int24_at(p, 49),
             landing_spin_rpm: [int24_at(p, 52), int24_at(p, 55), int24_at(p, 58)],
-            landing_velocity: figures3(p, 61, by, D4 + 20, s),
-            total_distance: figure_at(p, 70, by, D4 + 23, s),
-            roll_distance: figure_at(p, 73, by, D4 + 24, s),
-            final_position: figures3(p, 76, by, D4 + 25, s),
-            clubhead_speed: figure_at(p, 85, by, D4 + 28, s),
-            club_strike_direction: figure_at(p, 88, by, D4 + 29, s),
-            club_attack_angle: figure_at(p, 91, by, D4 + 30, s),
-            clubhead_speed_post: figure_at(p, 94, by, D4 + 31, s),
-            club_swing_plane_tilt: figure_at(p, 97, by, D4 + 32, s),
-            club_swing_plane_rotation: figure_at(p, 100, by, D4 + 33, s),
-            club_effective_loft: figure_at(p, 103, by, D4 + 34, s),
-            club_face_angle: figure_at(p, 106, by, D4 + 35, s),
+            landing_velocity: figures3(p, 61, by, 20, s),
+            total_distance: figure_at(p, 70, by, 23, s),
+            roll_distance: figure_at(p, 73, by, 24, s),
+            final_position: figures3(p, 76, by, 25, s),
+            clubhead_speed: figure_at(p, 85, by, 28, s),
+            club_strike_direction: figure_at(p, 88, by, 29, s),
+            club_attack_angle: figure_at(p, 91, by, 30, s),
+            clubhead_speed_post: figure_at(p, 94, by, 31, s),
+            club_swing_plane_tilt: figure_at(p, 97, by, 32, s),
+            club_swing_plane_rotation: figure_at(p, 100, by, 33, s),
+            club_effective_loft: figure_at(p, 103, by, 34, s),
+            club_face_angle: figure_at(p, 106, by, 35, s),
             poly_scale: int24_at(p, 109),
-            poly_x: figures5(p, 112, by, D4 + 37, s),
-            poly_y: figures5(p, 127, by, D4 + 42, s),
-            poly_z: figures5(p, 142, by, D4 + 47, s),
+            poly_x: figures5(p, 112, by, 37, s),
+            poly_y: figures5(p, 127, by, 42, s),
+            poly_z: figures5(p, 142, by, 47, s),
         }
     }
 

@@ -6,14 +6,13 @@ ghost use lib.ListN.{length};
 ghost use Rattle.flight.specs.Decoding.{decodeRule, numbersIn, zeros};
 ghost use Rattle.flight.specs.FlightResultV1Fields.{flightResultV1, toldFlightResultV1};
 ghost use Rattle.flight.specs.Failure.{noRead};
-use crate::failure::no_speed;
 use crate::figures::figure_at;
 use crate::figures::figures5;
 use error::ResultUnit;
 use error::WireError;
+use failure::no_speed;
 use integer::int24_at;
 use numbers::DIVISORS;
-use numbers::E8;
 use numbers::Message;
 use numbers::scale;
 
@@ -97,31 +96,31 @@ impl FlightResultV1 {
         }
     }
 
-    // The record of a payload that is long enough, by these divisors and this scale.
+    // The record of a payload that is long enough, by these divisors and this scale: place and entry stand as numbers.
     fn of(p: &[u8], by: &[u32; 138], s: f64) -> FlightResultV1
         requires { ⌜ 94 ≤ length (now p) ⌝ }
         ensures { λ r. ⌜ r ≡ flightResultV1 (numbersIn Message.FlightResultV1 (now (p .entry)) (now (by .entry)) s) ⌝ }
     {
         FlightResultV1 {
             total: int24_at(p, 1),
-            club_velocity: figure_at(p, 4, by, E8 + 1, s),
-            ball_velocity: figure_at(p, 7, by, E8 + 2, s),
-            flight_time: figure_at(p, 10, by, E8 + 3, s),
-            distance: figure_at(p, 13, by, E8 + 4, s),
-            height: figure_at(p, 16, by, E8 + 5, s),
-            lateral: figure_at(p, 19, by, E8 + 6, s),
-            elevation: figure_at(p, 22, by, E8 + 7, s),
-            azimuth: figure_at(p, 25, by, E8 + 8, s),
-            tracked_time: figure_at(p, 28, by, E8 + 9, s),
-            drag: figure_at(p, 31, by, E8 + 10, s),
+            club_velocity: figure_at(p, 4, by, 53, s),
+            ball_velocity: figure_at(p, 7, by, 54, s),
+            flight_time: figure_at(p, 10, by, 55, s),
+            distance: figure_at(p, 13, by, 56, s),
+            height: figure_at(p, 16, by, 57, s),
+            lateral: figure_at(p, 19, by, 58, s),
+            elevation: figure_at(p, 22, by, 59, s),
+            azimuth: figure_at(p, 25, by, 60, s),
+            tracked_time: figure_at(p, 28, by, 61, s),
+            drag: figure_at(p, 31, by, 62, s),
             backspin_rpm: int24_at(p, 34),
             sidespin_rpm: int24_at(p, 37),
-            acceleration: figure_at(p, 40, by, E8 + 13, s),
-            club_strike_direction: figure_at(p, 43, by, E8 + 14, s),
+            acceleration: figure_at(p, 40, by, 65, s),
+            club_strike_direction: figure_at(p, 43, by, 66, s),
             poly_scale: int24_at(p, 46),
-            poly_x: figures5(p, 49, by, E8 + 16, s),
-            poly_y: figures5(p, 64, by, E8 + 21, s),
-            poly_z: figures5(p, 79, by, E8 + 26, s),
+            poly_x: figures5(p, 49, by, 68, s),
+            poly_y: figures5(p, 64, by, 73, s),
+            poly_z: figures5(p, 79, by, 78, s),
         }
     }
 

@@ -1,7 +1,6 @@
 // Shot result messages D4, E8 and ED: each decoded into one record of whole numbers and floats.
 // A field asked for by number is the record's field of that name (proofs/ByNumber).
 mod club_result;
-mod failure;
 mod figures;
 mod flight_result;
 mod flight_result_v1;

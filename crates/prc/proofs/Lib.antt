@@ -1,6 +1,4 @@
--- The laws of points and of the request.
+-- The laws of EC's points.
 pub mod Counts
 pub mod Asked
-pub mod Requests
-pub mod Exact
 pub mod One

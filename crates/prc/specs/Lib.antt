@@ -1,3 +1,2 @@
--- The points of EC and EE: how many there are, what each holds, and the request for more.
+-- The points of EC: how many there are, and what each holds.
 pub mod Points
-pub mod Request

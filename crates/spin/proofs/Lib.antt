@@ -1,2 +1,2 @@
--- The replies of EF and E9 are unique.
+-- The reply of EF is unique.
 pub mod One

@@ -1,2 +1,2 @@
--- The tables of EF and E9.
+-- The tables of EF.
 pub mod Tables

@@ -1,0 +1,4 @@
+-- The laws of EE's points and of the request.
+pub mod Counts
+pub mod Requests
+pub mod One

@@ -1,0 +1,2 @@
+-- What tells a failed shot.
+pub mod Speed

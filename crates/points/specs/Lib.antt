@@ -1,0 +1,2 @@
+-- What the points of EC and EE share.
+pub mod Point

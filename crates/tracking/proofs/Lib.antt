@@ -1,0 +1,2 @@
+-- The reply of E9 is unique.
+pub mod One

@@ -1,0 +1,13 @@
+-- `zero_tracking` meets its contract.
+-- Assumes nothing.
+use mathlib.Core.Path.{refl}
+use Rattle.tracking.specs.Table.{trackingOf}
+use Rattle.tracking.proofs.zero_tracking.Statement.{statement}
+use Rattle.tracking.proofs.zero_tracking.Tie as tie
+
+returns : tie.Need-returns
+unfolding trackingOf
+returns c = refl
+
+pub zero-tracking-spec : {M : Type 1} → statement M
+zero-tracking-spec = tie.close (tie.spec returns)

@@ -1,0 +1,2 @@
+-- The table of E9.
+pub mod Table
