@@ -1,44 +1,40 @@
 // Frames and the splitter: the operations 20 (parse), 21 (encode), 22 (split) and 23 (a state).
 // The case's numbers are the lent buffer's length, DEST, SRC and TYPE, H, and the sizes of the chunks offered in turn.
-use crate::bytes;
-use crate::first;
 use crate::lent;
 use crate::say;
-use crate::second;
 use crate::within;
+use libc::STDOUT_FILENO;
 
-pub(crate) fn parse(case: &[u8]) {
+pub(crate) fn parse(a: usize, wire: &[u8]) {
     let mut room = lent();
-    let n = within(first(case) as usize, &room);
-    parse_into(bytes(case), &mut room[..n]);
-}
-
-fn parse_into(wire: &[u8], payload: &mut [u8]) {
+    let n = within(a, &room);
+    let payload = &mut room[..n];
     let mut header = [0u64; 4];
     let mut values = [0u64; 3];
     let k = abi_frames::mvd_parse(wire, payload, &mut header, &mut values);
     say::told(k, &values);
     if k == 0 {
         let words = &header;
-        say::wholes(words);
+        say::wholes(words, 4);
     }
     say::bytes(payload);
 }
 
-pub(crate) fn encode(case: &[u8]) {
+pub(crate) fn encode(head: &[u8], b: u64, payload: &[u8]) {
     let mut room = lent();
-    let n = within(second(case) as usize, &room);
-    encode_into(case, &mut room[..n]);
-}
-
-fn encode_into(case: &[u8], wire: &mut [u8]) {
+    let n = within(b as usize, &room);
+    let wire = &mut room[..n];
     let mut length = 0usize;
     let mut values = [0u64; 3];
-    let dest = integer::byte_at(case, 6);
-    let src = integer::byte_at(case, 7);
-    let type_id = integer::byte_at(case, 8);
-    let payload = bytes(case);
-    let k = abi_frames::mvd_encode(dest, src, type_id, payload, wire, &mut length, &mut values);
+    let k = abi_frames::mvd_encode(
+        integer::byte_at(head, 6),
+        integer::byte_at(head, 7),
+        integer::byte_at(head, 8),
+        payload,
+        wire,
+        &mut length,
+        &mut values,
+    );
     say::told(k, &values);
     if k == 0 {
         say::whole(length as u64);
@@ -46,94 +42,68 @@ fn encode_into(case: &[u8], wire: &mut [u8]) {
     say::bytes(wire);
 }
 
-// An empty chunk, offered to a state that the case gives; the case's bytes are the hold buffer.
-pub(crate) fn state(case: &mut [u8]) {
-    if case.len() < 17 {
-        return;
-    }
-    let mut count = first(case) as usize;
-    let mut skipping = integer::byte_at(case, 16);
-    let mut fed = [0u64; 5];
-    let mut values = [0u64; 3];
-    let hold = &mut case[17..];
-    let k = abi_frames::mvd_feed(&mut count, &mut skipping, hold, b"", &mut fed, &mut values);
-    say::lent(k, &values, b"");
-}
-
-pub(crate) fn split(case: &[u8]) {
-    let mut room = lent();
-    let n = within(first(case) as usize, &room);
-    split_with(case, &mut room[..n]);
-}
-
-// The stream twice: first the frames' lengths, and the state at the end; then their bytes, and those held.
-fn split_with(case: &[u8], hold: &mut [u8]) {
-    let no_values = [0u64; 3];
-    say::told(0, &no_values);
-    let state = offer_all(case, hold, false);
-    say::whole(state.count as u64);
-    say::whole(state.skipping as u64);
-    say::colon();
-    let again = offer_all(case, hold, true);
-    say::part(hold, 0, again.count);
-    say::end();
-}
-
 struct Splitter {
     count: usize,
     skipping: u8,
     at: usize,
+    told: u64,
 }
 
-// Each chunk in turn; `shown` says whether bytes are printed or lengths. No stream has more chunks than the turns.
-fn offer_all(case: &[u8], hold: &mut [u8], shown: bool) -> Splitter {
-    let stream = bytes(case);
+// An empty chunk, offered to a state that the case gives, with a hold buffer of the case's length.
+pub(crate) fn state(a: usize, head: &[u8], data: &[u8]) {
+    let mut room = lent();
+    let n = within(data.len(), &room);
+    let start = Splitter {
+        count: a,
+        skipping: integer::byte_at(head, 16),
+        at: 0,
+        told: 0,
+    };
+    let state = feed(start, b"", 0, &mut room[..n], false);
+    io::print_decimal(STDOUT_FILENO, state.told);
+    say::end();
+}
+
+// The stream twice: first the frames' lengths, and the state at the end; then their bytes, and those held.
+pub(crate) fn split(a: usize, b: u64, stream: &[u8]) {
+    let mut room = lent();
+    let n = within(a, &room);
+    let hold = &mut room[..n];
+    let sizes = if b == 0 { 0x4040_4040_4040_4040 } else { b };
+    io::print_decimal(STDOUT_FILENO, 0);
+    let state = offer(sizes, stream, hold, false);
+    say::whole(state.count as u64);
+    say::whole(state.skipping as u64);
+    io::write_all(STDOUT_FILENO, b" :");
+    offer(sizes, stream, hold, true);
+    say::hex(cut(hold, 0, state.count));
+    io::write_all(STDOUT_FILENO, b"\n");
+}
+
+// Chunks of the eight sizes in turn, each until all of it is taken; `shown` says whether bytes are printed or lengths.
+// No stream takes as many turns.
+fn offer(first: u64, stream: &[u8], hold: &mut [u8], shown: bool) -> Splitter {
     let mut state = Splitter {
         count: 0,
         skipping: 0,
         at: 0,
+        told: 0,
     };
+    let mut sizes = first;
     let mut end = 0;
     let mut turn = 0usize;
     while turn < 4096 {
-        if stream.len() <= end {
+        if stream.len() <= state.at {
             break;
         }
-        end = chunk_end(end, size_of(case, turn), stream.len());
-        state = offer(state, stream, end, hold, shown);
-        turn += 1;
-    }
-    state
-}
-
-// The size that is due: the eight bytes of the second number in turn, 64 where all are 0.
-fn size_of(case: &[u8], turn: usize) -> usize {
-    if second(case) == 0 {
-        64
-    } else {
-        integer::byte_at(case, 9 + turn % 8) as usize
-    }
-}
-
-// The end of a chunk of some size, or the stream's end.
-fn chunk_end(end: usize, size: usize, len: usize) -> usize {
-    if end <= len {
-        if size < len - end {
-            return end + size;
-        }
-    }
-    len
-}
-
-// One chunk, until all of it is taken.
-fn offer(start: Splitter, stream: &[u8], end: usize, hold: &mut [u8], shown: bool) -> Splitter {
-    let mut state = start;
-    let mut turn = 0usize;
-    while turn < 4096 {
-        state = feed(state, stream, end, hold, shown);
         if end <= state.at {
-            break;
+            end = within(
+                std::num::wrapping_add_usize(end, (sizes >> 56) as usize),
+                stream,
+            );
+            sizes = sizes << 8 | sizes >> 56;
         }
+        state = feed(state, stream, end, hold, shown);
         turn += 1;
     }
     state
@@ -145,7 +115,7 @@ fn feed(state: Splitter, stream: &[u8], end: usize, hold: &mut [u8], shown: bool
     let mut fed = [0u64; 5];
     let mut values = [0u64; 3];
     let chunk = cut(stream, state.at, end);
-    abi_frames::mvd_feed(
+    let told = abi_frames::mvd_feed(
         &mut count,
         &mut skipping,
         hold,
@@ -158,9 +128,11 @@ fn feed(state: Splitter, stream: &[u8], end: usize, hold: &mut [u8], shown: bool
         count,
         skipping,
         at: std::num::wrapping_add_usize(state.at, fed[1] as usize),
+        told,
     }
 }
 
+// The bytes from a place to another, none where they are not there.
 fn cut(stream: &[u8], at: usize, end: usize) -> &[u8] {
     if at <= end && end <= stream.len() {
         &stream[at..end]
@@ -169,17 +141,21 @@ fn cut(stream: &[u8], at: usize, end: usize) -> &[u8] {
     }
 }
 
+// A frame's bytes, or its length, -1 for one above H. Where there is no frame its place is empty.
 fn event(fed: [u64; 5], chunk: &[u8], hold: &[u8], shown: bool) {
-    if fed[0] == 1 {
-        if !shown {
-            say::whole(fed[4]);
-        } else if fed[2] == 1 {
-            say::part(hold, fed[3] as usize, fed[4] as usize);
+    let kind = fed[0];
+    let len = fed[4];
+    if shown {
+        let start = fed[3] as usize;
+        let end = std::num::wrapping_add_usize(start, len as usize);
+        if fed[2] == 1 {
+            say::hex(cut(hold, start, end));
         } else {
-            say::part(chunk, fed[3] as usize, fed[4] as usize);
+            say::hex(cut(chunk, start, end));
         }
-    }
-    if fed[0] == 2 && !shown {
-        say::signed(-1);
+    } else if kind == 1 {
+        say::whole(len);
+    } else if kind == 2 {
+        io::write_all(STDOUT_FILENO, b" -1");
     }
 }

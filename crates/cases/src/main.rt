@@ -44,60 +44,65 @@ fn replay(text: &[u8]) {
     }
 }
 
+// The operation and the two numbers are the case's head; its bytes are lent to what writes, and read by all else.
 fn line(hex: &[u8]) {
+    let mut head = [0u8; 17];
     let mut room = io::buffer();
-    let n = unhex(hex, &mut room);
+    unhex(hex, 0, &mut head);
+    let n = unhex(hex, 34, &mut room);
     let k = within(n, &room);
-    answer(&mut room[..k]);
+    match integer::byte_at(&head, 0) {
+        0x11 | 0x12 | 0x13 | 0x14 | 0x15 | 0x16 | 0x17 | 0x18 | 0x3A => {
+            fields::write(&head, &mut room[..k])
+        }
+        _ => answer(&head, &room[..k]),
+    }
 }
 
 // One line: the operation's answer to the case.
-fn answer(case: &mut [u8]) {
-    let op = integer::byte_at(case, 0);
+fn answer(head: &[u8], data: &[u8]) {
+    let op = integer::byte_at(head, 0);
+    let a = number(head, 1) as usize;
+    let b = number(head, 9);
     match op {
-        0x20 => frames::parse(case),
-        0x21 => frames::encode(case),
-        0x22 => frames::split(case),
-        0x23 => frames::state(case),
-        0x30 => messages::flight_result(case),
-        0x31 => messages::flight_result_v1(case),
-        0x32 => messages::club_result(case),
-        0x33 => messages::spin_result(case),
-        0x34 => messages::tracking_status(case),
-        0x35 => messages::speed_profile(case),
-        0x36 => messages::prc_data(case),
-        0x37 => messages::prc_point(case),
-        0x38 => messages::club_prc(case),
-        0x39 => messages::club_prc_point(case),
-        0x3A => messages::encode_request(case),
-        0x3B => messages::shot_text(case),
-        0x3C => messages::is_model_failure(case),
-        0x3D => messages::is_no_read(case),
-        0x40 => messages::field(case),
-        0x41 => messages::bay_log(case),
-        _ => {
-            if op < 0x10 {
-                fields::read(op, case);
-            } else {
-                fields::write(op, case);
-            }
-        }
+        0x01 => fields::read_int16(a, data),
+        0x02 => fields::read_uint16(a, data),
+        0x03 | 0x05 => fields::read_signed(op, a, data),
+        0x04 | 0x06 => fields::read_unsigned(op, a, data),
+        0x07 | 0x08 | 0x09 => fields::read_figure(op, a, b, data),
+        0x20 => frames::parse(a, data),
+        0x21 => frames::encode(head, b, data),
+        0x22 => frames::split(a, b, data),
+        0x23 => frames::state(a, head, data),
+        0x30 => messages::flight_result(data),
+        0x31 => messages::flight_result_v1(data),
+        0x32 => messages::club_result(data),
+        0x33 => messages::spin_result(data),
+        0x34 => messages::tracking_status(data),
+        0x35 => messages::speed_profile(a, data),
+        0x36 => messages::prc_data(data),
+        0x37 => messages::prc_point(a, data),
+        0x38 => messages::club_prc(data),
+        0x39 => messages::club_prc_point(a, data),
+        0x3B => messages::shot_text(data),
+        0x3C | 0x3D => messages::has_failed(op, data),
+        0x40 => messages::field(head, a, data),
+        0x41 => messages::bay_log(head, b, data),
+        _ => (),
     }
 }
 
 // ---- the parts of a case
 
-pub(crate) fn first(case: &[u8]) -> u64 {
-    wide(integer::uint32_at(case, 1), integer::uint32_at(case, 5))
+// The number of eight bytes at a place of the head.
+pub(crate) fn number(head: &[u8], at: usize) -> u64 {
+    let high = integer::uint32_at(head, at);
+    let low = integer::uint32_at(head, std::num::wrapping_add_usize(at, 4));
+    (high as u64) << 32 | low as u64
 }
 
-pub(crate) fn second(case: &[u8]) -> u64 {
-    wide(integer::uint32_at(case, 9), integer::uint32_at(case, 13))
-}
-
-// The second number as a float's bits; a NaN is any NaN.
-pub(crate) fn float(case: &[u8]) -> f64 {
-    let bits = second(case);
+// A float by its bits; a NaN is any NaN.
+pub(crate) fn float(bits: u64) -> f64 {
     if 0x7FF0_0000_0000_0000 < bits % 0x8000_0000_0000_0000 {
         0.0 / 0.0
     } else {
@@ -105,25 +110,28 @@ pub(crate) fn float(case: &[u8]) -> f64 {
     }
 }
 
-fn wide(high: u32, low: u32) -> u64 {
-    (high as u64) << 32 | low as u64
-}
-
-pub(crate) fn bytes(case: &[u8]) -> &[u8] {
-    if 17 <= case.len() { &case[17..] } else { case }
-}
-
-// The bytes of a line of hex at the front of a buffer, and how many.
-fn unhex(hex: &[u8], out: &mut [u8]) -> usize {
+// The bytes of a line of hex from a digit on, at the front of a buffer, and how many.
+fn unhex(hex: &[u8], from: usize, out: &mut [u8]) -> usize {
+    let mut at = from;
     let mut i = 0;
     while i < out.len() {
-        if hex.len() <= 2 * i + 1 {
+        if hex.len() <= at {
             break;
         }
-        out[i] = nibble(hex[2 * i]) << 4 | nibble(hex[2 * i + 1]);
+        out[i] = digit(hex, at) << 4 | digit(hex, at + 1);
+        at += 2;
         i += 1;
     }
     i
+}
+
+fn digit(hex: &[u8], at: usize) -> u8 {
+    let glyph = integer::byte_at(hex, at);
+    if glyph < 58 {
+        std::num::wrapping_sub_u8(glyph, 48)
+    } else {
+        std::num::wrapping_sub_u8(glyph, 87)
+    }
 }
 
 // A number of a buffer's bytes: n, or all where there are fewer. `&buf[..n]` then needs no proof.
@@ -131,12 +139,4 @@ pub(crate) fn within(n: usize, buf: &[u8]) -> usize
     ensures { λ r. ⌜ Front r (now (buf .entry)) ⌝ }
 {
     if n < buf.len() { n } else { buf.len() }
-}
-
-fn nibble(digit: u8) -> u8 {
-    if digit < 58 {
-        std::num::wrapping_sub_u8(digit, 48)
-    } else {
-        std::num::wrapping_sub_u8(digit, 87)
-    }
 }

@@ -5,27 +5,14 @@ use libc::STDOUT_FILENO;
 // The number that a call answered, and as many values as that refusal has.
 pub(crate) fn told(k: u64, values: &[u64; 3]) {
     io::print_decimal(STDOUT_FILENO, k);
-    let n = values_of(k);
-    if 0 < n {
-        whole(values[0]);
-    }
-    if 1 < n {
-        whole(values[1]);
-    }
-    if 2 < n {
-        whole(values[2]);
-    }
+    wholes(values, values_of(k));
 }
 
 fn values_of(k: u64) -> usize {
     match k {
         7 => 3,
-        4 => 2,
-        5 => 2,
-        8 => 2,
-        0 => 0,
-        3 => 0,
-        9 => 0,
+        4 | 5 | 8 => 2,
+        0 | 3 | 9 => 0,
         _ => 1,
     }
 }
@@ -57,9 +44,13 @@ pub(crate) fn float(x: f64) {
     io::print_hex(STDOUT_FILENO, float40_write::bits_of(x), 16);
 }
 
-pub(crate) fn wholes(ns: &[u64]) {
+// The first n numbers, or all.
+pub(crate) fn wholes(ns: &[u64], n: usize) {
     let mut i = 0;
     while i < ns.len() {
+        if n <= i {
+            break;
+        }
         whole(ns[i]);
         i += 1;
     }
@@ -81,54 +72,34 @@ pub(crate) fn floats(xs: &[f64]) {
     }
 }
 
-fn octet(b: u8) {
-    io::print_hex(STDOUT_FILENO, b as u64, 2);
-}
-
-fn hex(bytes: &[u8]) {
+pub(crate) fn hex(bytes: &[u8]) {
     let mut i = 0;
     while i < bytes.len() {
-        octet(bytes[i]);
+        io::print_hex(STDOUT_FILENO, bytes[i] as u64, 2);
         i += 1;
     }
 }
 
-// Some of the bytes: `len` of them from a place on.
-pub(crate) fn part(bytes: &[u8], start: usize, len: usize) {
-    if start <= bytes.len() {
-        if len <= bytes.len() - start {
-            hex(&bytes[start..start + len]);
-        }
-    }
-}
-
-pub(crate) fn colon() {
+// The bytes, and the line's end.
+pub(crate) fn bytes(bytes: &[u8]) {
     io::write_all(STDOUT_FILENO, b" :");
-}
-
-pub(crate) fn end() {
+    hex(bytes);
     io::write_all(STDOUT_FILENO, b"\n");
 }
 
-// The bytes, and the line's end.
-pub(crate) fn bytes(bytes: &[u8]) {
-    colon();
-    hex(bytes);
-    end();
+// The end of a line without bytes.
+pub(crate) fn end() {
+    io::write_all(STDOUT_FILENO, b" :\n");
 }
 
 // ---- whole lines
-
-pub(crate) fn small(k: u64, values: &[u64; 3], n: i16) {
-    number(k, values, abi::wide(n));
-}
 
 pub(crate) fn number(k: u64, values: &[u64; 3], n: i32) {
     told(k, values);
     if k == 0 {
         signed(n);
     }
-    bytes(b"");
+    end();
 }
 
 pub(crate) fn count(k: u64, values: &[u64; 3], n: u64) {
@@ -136,7 +107,7 @@ pub(crate) fn count(k: u64, values: &[u64; 3], n: u64) {
     if k == 0 {
         whole(n);
     }
-    bytes(b"");
+    end();
 }
 
 pub(crate) fn figure(k: u64, values: &[u64; 3], x: f64) {
@@ -144,7 +115,7 @@ pub(crate) fn figure(k: u64, values: &[u64; 3], x: f64) {
     if k == 0 {
         float(x);
     }
-    bytes(b"");
+    end();
 }
 
 pub(crate) fn record(k: u64, values: &[u64; 3], whole: &[i32], figures: &[f64]) {
@@ -153,7 +124,7 @@ pub(crate) fn record(k: u64, values: &[u64; 3], whole: &[i32], figures: &[f64]) 
         signs(whole);
         floats(figures);
     }
-    bytes(b"");
+    end();
 }
 
 pub(crate) fn lent(k: u64, values: &[u64; 3], buf: &[u8]) {

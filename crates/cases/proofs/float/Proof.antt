@@ -19,9 +19,6 @@ no-nan n h =
     (λ t. absurd (let l = ltb→lt 9218868437227405312 (n % 9223372036854775808) (subst T (sym t) tt) in omega arith))
     (λ t. subst (λ (b : Bool). T (not b)) (sym (p ∙ t)) tt)
 
-second-requires : tie.Need-second-requires
-second-requires c κs = search needs
-
 float-from-bits-result : tie.Need-float-from-bits-result
 float-from-bits-result c = no-nan _ (omega arith)
 
@@ -32,4 +29,4 @@ returns-2 : tie.Need-returns-2
 returns-2 c = search needs
 
 pub float-spec : {M : Type 1} → statement M
-float-spec = tie.close (tie.spec second-requires float-from-bits-result returns returns-2)
+float-spec = tie.close (tie.spec float-from-bits-result returns returns-2)

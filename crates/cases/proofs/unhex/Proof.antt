@@ -7,43 +7,28 @@ use Rattle.cases.proofs.unhex.Statement.{statement}
 use Rattle.cases.proofs.unhex.Tie as tie
 
 abbrev Inv-loop : tie.InvT-loop
-Inv-loop hex out₀ i₀ out i = length out ≡ length out₀
+Inv-loop hex from out₀ at₀ i₀ out at i = length out ≡ length out₀
 
 abbrev μ-loop : tie.MeasureT-loop
-μ-loop hex out₀ i₀ out i = length out₀ - i
+μ-loop hex from out₀ at₀ i₀ out at i = length out₀ - i
 
 loop-holds : tie.Need-loop-holds Inv-loop μ-loop
 loop-holds c = refl
 
-mul-if1 : tie.Need-mul-if1 Inv-loop μ-loop
-mul-if1 c = omega arith
+digit-requires : tie.Need-digit-requires Inv-loop μ-loop
+digit-requires c κs = tt
 
-add-if1 : tie.Need-add-if1 Inv-loop μ-loop
-add-if1 c = omega arith
+add-digit : tie.Need-add-digit Inv-loop μ-loop
+add-digit c = omega arith
 
-mul-nibble : tie.Need-mul-nibble Inv-loop μ-loop
-mul-nibble c = omega arith
-
-shared-slice-read-nibble : tie.Need-shared-slice-read-nibble Inv-loop μ-loop
-shared-slice-read-nibble c = omega arith
-
-nibble-requires : tie.Need-nibble-requires Inv-loop μ-loop
-nibble-requires c κs = tt
-
-mul-nibble-2 : tie.Need-mul-nibble-2 Inv-loop μ-loop
-mul-nibble-2 c = omega arith
-
-add-nibble : tie.Need-add-nibble Inv-loop μ-loop
-add-nibble c = omega arith
-
-shared-slice-read-nibble-2 : tie.Need-shared-slice-read-nibble-2 Inv-loop μ-loop
-shared-slice-read-nibble-2 c = omega arith
-
-nibble-requires-2 : tie.Need-nibble-requires-2 Inv-loop μ-loop
-nibble-requires-2 c κs = tt
+digit-requires-2 : tie.Need-digit-requires-2 Inv-loop μ-loop
+digit-requires-2 c κs = tt
 
 slice-write-out : tie.Need-slice-write-out Inv-loop μ-loop
 slice-write-out c = omega arith
+
+add-at : tie.Need-add-at Inv-loop μ-loop
+add-at c = omega arith
 
 add-i : tie.Need-add-i Inv-loop μ-loop
 add-i c = omega arith
@@ -52,7 +37,7 @@ loop-less : tie.Need-loop-less Inv-loop μ-loop
 loop-less c = omega arith
 
 loop-again : tie.Need-loop-again Inv-loop μ-loop
-loop-again c = simp length-set (c .before .before .before .before .before .before .loop .inv)
+loop-again c = simp length-set (c .before .before .before .before .loop .inv)
 
 same-length : tie.Need-same-length Inv-loop μ-loop
 same-length c = omega arith
@@ -73,16 +58,11 @@ unhex-spec =
     Inv-loop
     μ-loop
     loop-holds
-    mul-if1
-    add-if1
-    mul-nibble
-    shared-slice-read-nibble
-    nibble-requires
-    mul-nibble-2
-    add-nibble
-    shared-slice-read-nibble-2
-    nibble-requires-2
+    digit-requires
+    add-digit
+    digit-requires-2
     slice-write-out
+    add-at
     add-i
     loop-less
     loop-again

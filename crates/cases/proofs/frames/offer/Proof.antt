@@ -7,13 +7,19 @@ use Rattle.cases.proofs.frames.offer.Statement.{statement}
 use Rattle.cases.proofs.frames.offer.Tie as tie
 
 abbrev Inv-loop : tie.InvT-loop
-Inv-loop stream end hold₀ shown state₀ turn₀ hold state turn = length hold ≡ length hold₀
+Inv-loop first stream hold₀ shown state₀ sizes₀ end₀ turn₀ hold state sizes end turn = length hold ≡ length hold₀
 
 abbrev μ-loop : tie.MeasureT-loop
-μ-loop stream end hold₀ shown state₀ turn₀ hold state turn = 4096 - turn
+μ-loop first stream hold₀ shown state₀ sizes₀ end₀ turn₀ hold state sizes end turn = 4096 - turn
 
 loop-holds : tie.Need-loop-holds Inv-loop μ-loop
 loop-holds c = refl
+
+wrapping-add-usize-requires : tie.Need-wrapping-add-usize-requires Inv-loop μ-loop
+wrapping-add-usize-requires c κs = tt
+
+within-requires : tie.Need-within-requires Inv-loop μ-loop
+within-requires c κs = tt
 
 feed-requires : tie.Need-feed-requires Inv-loop μ-loop
 feed-requires c κs = tt
@@ -46,6 +52,8 @@ offer-spec =
     Inv-loop
     μ-loop
     loop-holds
+    wrapping-add-usize-requires
+    within-requires
     feed-requires
     add-turn
     loop-less

@@ -14,11 +14,14 @@ abbrev μ-loop : tie.MeasureT-loop
 loop-holds : tie.Need-loop-holds Inv-loop μ-loop
 loop-holds c = tt
 
-shared-slice-read-octet : tie.Need-shared-slice-read-octet Inv-loop μ-loop
-shared-slice-read-octet c = omega arith
+shared-slice-read-print-hex : tie.Need-shared-slice-read-print-hex Inv-loop μ-loop
+shared-slice-read-print-hex c = omega arith
 
-octet-requires : tie.Need-octet-requires Inv-loop μ-loop
-octet-requires c κs = tt
+cast-print-hex : tie.Need-cast-print-hex Inv-loop μ-loop
+cast-print-hex c = omega (arith, c .shared-slice-known2 .given (c .before .before .loop .i))
+
+print-hex-requires : tie.Need-print-hex-requires Inv-loop μ-loop
+print-hex-requires c κs = tt
 
 add-i : tie.Need-add-i Inv-loop μ-loop
 add-i c = omega arith
@@ -39,8 +42,9 @@ hex-spec =
     Inv-loop
     μ-loop
     loop-holds
-    shared-slice-read-octet
-    octet-requires
+    shared-slice-read-print-hex
+    cast-print-hex
+    print-hex-requires
     add-i
     loop-less
     loop-again

@@ -6,10 +6,10 @@ use Rattle.cases.proofs.say.wholes.Statement.{statement}
 use Rattle.cases.proofs.say.wholes.Tie as tie
 
 abbrev Inv-loop : tie.InvT-loop
-Inv-loop ns i₀ i = Unit
+Inv-loop ns n i₀ i = Unit
 
 abbrev μ-loop : tie.MeasureT-loop
-μ-loop ns i₀ i = length ns - i
+μ-loop ns n i₀ i = length ns - i
 
 loop-holds : tie.Need-loop-holds Inv-loop μ-loop
 loop-holds c = tt
@@ -35,6 +35,9 @@ loop-again c = tt
 returns : tie.Need-returns Inv-loop μ-loop
 returns c = tt
 
+returns-2 : tie.Need-returns-2 Inv-loop μ-loop
+returns-2 c = tt
+
 pub wholes-spec : {M : Type 1} → statement M
 wholes-spec =
     tie.close
@@ -48,4 +51,5 @@ wholes-spec =
     add-i
     loop-less
     loop-again
-    returns)
+    returns
+    returns-2)
