@@ -1,24 +1,22 @@
 // The program's work without its input and output: a piece of the stream in, the lines of its events out.
 // However the stream is cut into pieces, the lines are those of the Rust's frames (proofs/Printed).
 ghost use mathlib.Core.Path.{_≡_};
-ghost use mathlib.Core.Bool.{false, cond};
-ghost use mathlib.Core.List.{[]};
+ghost use mathlib.Core.Bool.{false};
 ghost use Prim.Native.Nat.{_*_, _≤_};
 ghost use lib.ListN.{length};
-ghost use Rattle.error.specs.Refusal.{yes, no};
-ghost use Rattle.error.specs.Result.{toldUnit, toldUsize};
+ghost use Rattle.error.specs.Result.{toldUsize};
 ghost use Rattle.splitter.specs.Feed.{new, isBad};
 ghost use Rattle.stream.specs.Stream.{Frame};
 ghost use Rattle.report.specs.Line.{longText};
 ghost use Rattle.session.specs.Lines.{lineTo};
 ghost use Rattle.session.specs.Piece.{stage, payloadTo, roomFor, allLines, shown, pieceRule, frontOf};
 ghost use Rattle.session.specs.Event.{countOf, Wrote, Stepped};
-use error::ResultUnit;
 use error::ResultUsize;
 use error::WireError;
 use frame::RawFrame;
 use splitter::Event;
 use splitter::FrameSplitter;
+use splitter::bad;
 
 // Between two pieces: the splitter, and the number of the next event.
 pub struct Session {
@@ -46,9 +44,9 @@ impl Session {
     pub fn piece(self, hold: &mut [u8], payload: &mut [u8], chunk: &[u8], out: &mut [u8]) -> Ran
         ensures { λ r. ⌜ shown r (now (hold .exit)) (now (payload .exit)) (now (out .exit)) ≡ pieceRule (stage self (now (hold .entry)) (now (payload .entry))) (now (chunk .entry)) (now (out .entry)) ⌝ }
     {
-        if let ResultUnit::Err(e) = tried(self.splitter, hold) {
+        if bad(self.splitter, hold.len()) {
             return Ran {
-                reply: ResultUsize::Err(e),
+                reply: ResultUsize::Err(WireError::BadState),
                 session: self,
             };
         }
@@ -77,21 +75,6 @@ pub fn text_of<'a>(reply: ResultUsize, out: &'a [u8]) -> &'a [u8]
             &out[..0]
         }
         ResultUsize::Err(_) => &out[..0],
-    }
-}
-
-// Whether the splitter refuses its state: a feed of nothing changes nothing.
-fn tried(splitter: FrameSplitter, hold: &mut [u8]) -> ResultUnit
-    ensures reply { λ r. ⌜ toldUnit r ≡ cond (isBad splitter (length (now (hold .entry)))) (no 9 []) (yes tt) ⌝ }
-    ensures kept { λ r. ⌜ now (hold .exit) ≡ now (hold .entry) ⌝ }
-{
-    let fed = splitter.feed(hold, b"");
-    let event = fed.event;
-    match event {
-        Event::Err(e) => ResultUnit::Err(e),
-        Event::More => ResultUnit::Ok,
-        Event::Frame(_) => ResultUnit::Ok,
-        Event::Overlong => ResultUnit::Ok,
     }
 }
 

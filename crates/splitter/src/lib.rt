@@ -71,8 +71,8 @@ impl FrameSplitter {
     }
 }
 
-// A state that no call gives.
-fn bad(s: FrameSplitter, room: usize) -> bool
+// A state that no call gives, where the hold buffer has room bytes: `feed` refuses it.
+pub fn bad(s: FrameSplitter, room: usize) -> bool
     ensures { λ r. ⌜ r ≡ isBad s room ⌝ }
 {
     let count = s.count;
