@@ -5,11 +5,6 @@ ghost use lib.ListN.{length};
 use error::ResultUsize;
 use session::Session;
 
-struct Turn {
-    session: Session,
-    going: bool,
-}
-
 fn main() {
     let mut hold = [0u8; 2048];
     let mut payload = [0u8; 2048];
@@ -28,15 +23,23 @@ fn line_buffer() -> [u8; 1048576]
     [0; 1048576]
 }
 
+// Reads once in each turn and prints the lines of what came, to the end of the input or where a call fails.
 // A proved loop has to end, and nothing says that the input does: the turns are counted down from a
 // number that no run uses up.
 fn print_all(hold: &mut [u8], payload: &mut [u8], piece: &mut [u8], lines: &mut [u8]) -> Session {
     let mut session = Session::new();
     let mut turns = u64::MAX;
     while turns > 0 {
-        let turn = print_piece(session, hold, payload, piece, lines);
-        session = turn.session;
-        if !turn.going {
+        let got = libc::read(libc::STDIN_FILENO, piece);
+        if got <= 0 {
+            told(got);
+            break;
+        }
+        let n = io::count(got, piece);
+        let ran = session.piece(hold, payload, &piece[..n], lines);
+        session = ran.session;
+        let reply = ran.reply;
+        if !print(reply, lines) {
             break;
         }
         turns -= 1;
@@ -44,33 +47,14 @@ fn print_all(hold: &mut [u8], payload: &mut [u8], piece: &mut [u8], lines: &mut 
     session
 }
 
-// Reads once, prints the lines of what came, and says whether to go on.
-fn print_piece(
-    session: Session,
-    hold: &mut [u8],
-    payload: &mut [u8],
-    piece: &mut [u8],
-    lines: &mut [u8],
-) -> Turn {
-    let got = libc::read(libc::STDIN_FILENO, piece);
+// Nothing came: a failure is told, an end is not.
+fn told(got: isize) {
     if got < 0 {
         io::write_all(
             libc::STDERR_FILENO,
             b"frames: standard input cannot be read\n",
         );
     }
-    if got <= 0 {
-        return Turn {
-            session,
-            going: false,
-        };
-    }
-    let n = io::count(got, piece);
-    let ran = session.piece(hold, payload, &piece[..n], lines);
-    let reply = ran.reply;
-    let session = ran.session;
-    let going = print(reply, lines);
-    Turn { session, going }
 }
 
 fn print(reply: ResultUsize, lines: &[u8]) -> bool {
