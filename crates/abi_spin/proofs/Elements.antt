@@ -1,4 +1,4 @@
--- The whole numbers of a row of antenna elements: two for each, and one more element adds its two at the end.
+-- The numbers of a row of antenna elements: two whole ones for each, and its peak; one more element adds its own at the end.
 -- Assumes nothing.
 use Prim.Native.Nat.{ℕ, suc, _+_, _*_, _<_}
 use mathlib.Core.Path.{_≡_, refl, sym, ap, _∙_}
@@ -6,10 +6,11 @@ use mathlib.Core.List.{List, [], _∷_, _++_}
 use native.Mathlib.Omega.{arith}
 use native.Mathlib.Numerals.{add-one}
 use lib.IntN.{ℤ}
+use lib.Ieee.{Float}
 use lib.ListN.{length, getD, set, take, length-take, length-append}
-use lib.Seq.{sets, take-suc}
+use lib.Seq.{sets, take-suc, set-comm}
 use Rattle.spin.specs.declared.AntennaElement.{AntennaElement}
-use Rattle.abi_spin.specs.Numbers.{elementsWhole}
+use Rattle.abi_spin.specs.Numbers.{elementsWhole, peaks}
 use Rattle.error.proofs.Stores.{sets-append}
 use Rattle.abi_spin.proofs.Filled.{filled}
 
@@ -17,11 +18,11 @@ append : (es fs : List AntennaElement) → elementsWhole (es ++ fs) ≡ elements
 append [] fs = refl
 append (e ∷ es) fs = ap (λ (t : List ℤ). e .«spin_rpm» ∷ e .snr ∷ t) (append es fs)
 
-pub two-each : (es : List AntennaElement) → length (elementsWhole es) ≡ length es * 2
+two-each : (es : List AntennaElement) → length (elementsWhole es) ≡ length es * 2
 two-each [] = refl
 two-each (e ∷ es) = omega (arith, two-each es)
 
-pub one-more : (es : List AntennaElement) (l : List ℤ) (i : ℕ) (d : AntennaElement) → i < length es
+one-more : (es : List AntennaElement) (l : List ℤ) (i : ℕ) (d : AntennaElement) → i < length es
     → set (set (sets l 1 (elementsWhole (take i es))) (1 + i * 2) (getD es i d .«spin_rpm»)) (2 + i * 2) (getD es i d .snr)
     ≡ sets l 1 (elementsWhole (take (i + 1) es))
 one-more es l i d h =
@@ -33,6 +34,54 @@ one-more es l i d h =
     let more : elementsWhole (take (i + 1) es) ≡ w ++ two = rw (add-one, take-suc es i d h) (append (take i es) (e ∷ [])) in
     let next : 2 + i * 2 ≡ suc (1 + i * 2) = omega arith in
     rw next (now ∙ ap (sets l 1) (sym more))
+
+module _ {A : Type 0} where
+  -- a store before a run of stores, or behind it
+  before : (vs l : List A) (j k : ℕ) (x : A) → k < j → set (sets l j vs) k x ≡ sets (set l k x) j vs
+  before [] l j k x h = refl
+  before (v ∷ vs) l j k x h =
+      before vs (set l j v) (suc j) k x (omega arith) ∙ ap (λ (m : List A). sets m (suc j) vs) (set-comm l j k v x (λ e. omega arith))
+
+  behind : (vs l : List A) (j i : ℕ) (d : A) → i < length vs
+      → set (sets l j (take i vs)) (j + i) (getD vs i d) ≡ sets l j (take (i + 1) vs)
+  behind vs l j i d h =
+      let n : i ≡ length (take i vs) = omega (arith, length-take i vs) in
+      ap (λ (k : ℕ). set (sets l j (take i vs)) (j + k) (getD vs i d)) n
+      ∙ sets-append (take i vs) (getD vs i d ∷ []) l j
+      ∙ ap (sets l j) (sym (ap (λ (k : ℕ). take k vs) (add-one i) ∙ take-suc vs i d h))
+
+-- one more element, and one more of the rest
+pub both-more : (es : List AntennaElement) (rest l : List ℤ) (i : ℕ) (d : AntennaElement) (z : ℤ) → i < 15 → i < length es → i < length rest
+    → set (set (set (sets (sets l 1 (elementsWhole (take i es))) 31 (take i rest)) (1 + i * 2) (getD es i d .«spin_rpm»))
+    (2 + i * 2) (getD es i d .snr)) (31 + i) (getD rest i z)
+    ≡ sets (sets l 1 (elementsWhole (take (i + 1) es))) 31 (take (i + 1) rest)
+both-more es rest l i d z h p q =
+    let e = getD es i d in
+    let m = sets l 1 (elementsWhole (take i es)) in
+    let t = take i rest in
+    let n = getD rest i z in
+    ap (λ (k : List ℤ). set (set k (2 + i * 2) (e .snr)) (31 + i) n) (before t m 31 (1 + i * 2) (e .«spin_rpm») (omega arith))
+    ∙ ap (λ (k : List ℤ). set k (31 + i) n) (before t (set m (1 + i * 2) (e .«spin_rpm»)) 31 (2 + i * 2) (e .snr) (omega arith))
+    ∙ ap (λ (k : List ℤ). set (sets k 31 t) (31 + i) n) (one-more es l i d p)
+    ∙ behind rest (sets l 1 (elementsWhole (take (i + 1) es))) 31 i z q
+
+-- the peaks
+peaks-append : (es fs : List AntennaElement) → peaks (es ++ fs) ≡ peaks es ++ peaks fs
+peaks-append [] fs = refl
+peaks-append (e ∷ es) fs = ap (λ (t : List Float). e .peak ∷ t) (peaks-append es fs)
+
+one-each : (es : List AntennaElement) → length (peaks es) ≡ length es
+one-each [] = refl
+one-each (e ∷ es) = ap suc (one-each es)
+
+pub peak-more : (es : List AntennaElement) (l : List Float) (i : ℕ) (d : AntennaElement) → i < length es
+    → set (sets l 0 (peaks (take i es))) i (getD es i d .peak) ≡ sets l 0 (peaks (take (i + 1) es))
+peak-more es l i d h =
+    let e = getD es i d in
+    let w = peaks (take i es) in
+    let n : i ≡ 0 + length w = omega (arith, one-each (take i es), length-take i es) in
+    let more : peaks (take (i + 1) es) ≡ w ++ e .peak ∷ [] = rw (add-one, take-suc es i d h) (peaks-append (take i es) (e ∷ [])) in
+    ap (λ (k : ℕ). set (sets l 0 w) k (e .peak)) n ∙ sets-append w (e .peak ∷ []) l 0 ∙ ap (sets l 0) (sym more)
 
 -- a number, the elements' and the rest, stored one after another, are the whole list
 pub joined : (v : ℤ) (es : List AntennaElement) (rest old : List ℤ) → length es ≡ 15 → length rest ≡ 15 → length old ≡ 46

@@ -94,70 +94,62 @@ pub extern "C" fn mvd_speed_profile(
 fn spin_whole(r: SpinResult) -> [i32; 46]
     ensures { λ x. ⌜ x ≡ spinWhole r ⌝ }
 {
+    let a = r.antenna_data;
+    let rest = spin_rest(r);
     let mut whole = [0; 46];
     whole[0] = byte(r.version);
-    let a = r.antenna_data;
-    put_elements(a, &mut whole);
-    put_rest(r, &mut whole);
+    put(a, rest, &mut whole);
     whole
 }
 
-// Spin and signal-to-noise of each antenna element, from place 1 on.
-fn put_elements(a: [AntennaElement; 15], whole: &mut [i32; 46])
-    ensures { λ _. ⌜ now (whole .exit) ≡ sets (now (whole .entry)) 1 (elementsWhole a) ⌝ }
+// Spin and signal-to-noise of each antenna element, from place 1 on; then the rest, from place 31 on.
+fn put(a: [AntennaElement; 15], rest: [i32; 15], whole: &mut [i32; 46])
+    ensures { λ _. ⌜ now (whole .exit) ≡ sets (sets (now (whole .entry)) 1 (elementsWhole a)) 31 rest ⌝ }
 {
     let mut i = 0;
     while i < 15 {
         whole[1 + i * 2] = rpm(a[i]);
         whole[2 + i * 2] = snr(a[i]);
+        whole[31 + i] = rest[i];
         i += 1;
     }
 }
 
 // What follows the elements.
-fn put_rest(r: SpinResult, whole: &mut [i32; 46])
-    ensures { λ _. ⌜ now (whole .exit) ≡ sets (now (whole .entry)) 31 (spinRest r) ⌝ }
+fn spin_rest(r: SpinResult) -> [i32; 15]
+    ensures { λ x. ⌜ x ≡ spinRest r ⌝ }
 {
-    whole[31] = wide(r.pm_spin_raw);
-    whole[32] = wide(r.pm_spin_final);
-    whole[33] = wide(r.pm_spin_confidence);
-    whole[34] = wide(r.lift_spin);
-    whole[35] = wide(r.spin_validate_expected);
-    whole[36] = wide(r.spin_validate_low);
-    whole[37] = wide(r.spin_validate_high);
-    whole[38] = wide(r.spin_validate_scaling);
-    whole[39] = byte(r.spin_method);
-    let flags = r.spin_flags;
-    whole[40] = flags;
-    whole[41] = wide(r.launch_spin);
-    whole[42] = wide(r.am_spin);
-    whole[43] = wide(r.pm_spin);
-    whole[44] = wide(r.aod_spin);
-    whole[45] = wide(r.pll_spin);
+    [
+        wide(r.pm_spin_raw),
+        wide(r.pm_spin_final),
+        wide(r.pm_spin_confidence),
+        wide(r.lift_spin),
+        wide(r.spin_validate_expected),
+        wide(r.spin_validate_low),
+        wide(r.spin_validate_high),
+        wide(r.spin_validate_scaling),
+        byte(r.spin_method),
+        r.spin_flags,
+        wide(r.launch_spin),
+        wide(r.am_spin),
+        wide(r.pm_spin),
+        wide(r.aod_spin),
+        wide(r.pll_spin),
+    ]
 }
 
+// The peaks, and the axis behind them.
 fn spin_figures(r: SpinResult) -> [f64; 16]
     ensures { λ x. ⌜ x ≡ spinFigures r ⌝ }
 {
     let a = r.antenna_data;
-    [
-        a[0].peak,
-        a[1].peak,
-        a[2].peak,
-        a[3].peak,
-        a[4].peak,
-        a[5].peak,
-        a[6].peak,
-        a[7].peak,
-        a[8].peak,
-        a[9].peak,
-        a[10].peak,
-        a[11].peak,
-        a[12].peak,
-        a[13].peak,
-        a[14].peak,
-        r.spin_axis,
-    ]
+    let mut figures = [r.spin_axis; 16];
+    let mut i = 0;
+    while i < 15 {
+        figures[i] = a[i].peak;
+        i += 1;
+    }
+    figures
 }
 
 fn tracking_counts(r: TrackingStatus) -> [u64; 16]

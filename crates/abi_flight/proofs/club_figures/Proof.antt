@@ -1,6 +1,5 @@
 -- `club_figures` meets its contract: the coefficients are laid where they were left out.
 -- Assumes nothing.
-use Prim.Native.Nat.{_+_, _≤_}
 use mathlib.Core.Path.{_≡_}
 use native.Mathlib.Omega.{arith}
 use borrow.Author.Needs.{needs}

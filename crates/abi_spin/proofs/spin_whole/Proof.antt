@@ -1,9 +1,8 @@
 -- `spin_whole` meets its contract: the parts fill the list.
 -- Assumes nothing.
 use borrow.Author.Needs.{needs}
-use mathlib.Core.Path.{refl, sym, ap, _∙_}
-use mathlib.Core.List.{List}
-use lib.IntN.{ℤ, pos}
+use mathlib.Core.Path.{refl, sym, _∙_}
+use lib.IntN.{pos}
 use lib.ListN.{set, replicate, length-map}
 use lib.Seq.{sets}
 use mir.Syntax.{w32}
@@ -15,18 +14,17 @@ use Rattle.abi_spin.proofs.spin_whole.Tie as tie
 
 returns : tie.Need-returns
 returns c =
-    let elements = c .before .before in
-    let version = elements .before .before .before in
-    let start = version .before in
+    let version = c .before .before in
+    let rest = version .before in
+    let start = rest .before .before in
     let r = start .args .r in
     let n = sym (length-map (r .«antenna_data») _) ∙ start .good .0 .1 .1 .1 .0 .1 .0 .1 in
-    c .put-rest .ensures
-    ∙ ap (λ (l : List ℤ). sets l 31 (spinRest r))
-    (elements .put-elements .ensures
-    ∙ ap (λ (z : ℤ). sets (set (replicate 46 (pos 0)) 0 z) 1 (elementsWhole (r .«antenna_data»)))
-    (held w32 (version .byte .ensures) (version .byte .ok)))
+    c .put .ensures
+    ∙ (λ i.
+    sets (sets (set (replicate 46 (pos 0)) 0 (held w32 (version .byte .ensures) (version .byte .ok) i)) 1 (elementsWhole (r .«antenna_data»)))
+    31 (rest .spin-rest .ensures i))
     ∙ joined (pos (r .version)) (r .«antenna_data») (spinRest r) (replicate 46 (pos 0)) n refl refl
 
 pub spin-whole-spec : {M : Type 1} → statement M
 spin-whole-spec =
-    tie.close (tie.spec (λ c κs. tt) (λ c. search needs) (λ c κs. tt) (λ c κs. tt) returns)
+    tie.close (tie.spec (λ c κs. tt) (λ c κs. tt) (λ c. search needs) (λ c κs. tt) returns)

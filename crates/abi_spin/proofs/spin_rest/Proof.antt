@@ -1,23 +1,22 @@
--- `put_rest` meets its contract: each store is of a number of the record.
+-- `spin_rest` meets its contract: each number is the record's.
 -- Assumes nothing.
-use borrow.Author.Needs.{needs, sfits-of}
+use borrow.Author.Needs.{sfits-of}
 use mathlib.Core.List.{[], _∷_}
-use lib.Seq.{sets}
 use mir.Syntax.{w32}
 use mir.ValLaws.{toZ-ofZ}
 use Rattle.layout.proofs.Held.{held}
 use Rattle.abi.proofs.Widened.{widened}
-use Rattle.abi_spin.proofs.put_rest.Statement.{statement}
-use Rattle.abi_spin.proofs.put_rest.Tie as tie
+use Rattle.abi_spin.proofs.spin_rest.Statement.{statement}
+use Rattle.abi_spin.proofs.spin_rest.Tie as tie
 
 returns : tie.Need-returns
 returns c =
-    let w13 = c in
+    let w13 = c .before in
     let w12 = w13 .before .before in
     let w11 = w12 .before .before in
     let w10 = w11 .before .before in
     let w9 = w10 .before .before in
-    let b = w9 .before .before .before in
+    let b = w9 .before .before in
     let w8 = b .before in
     let w7 = w8 .before .before in
     let w6 = w7 .before .before in
@@ -45,8 +44,7 @@ returns c =
     let f16 = f15 .1 in
     let f17 = f16 .1 in
     λ i.
-    sets (start .args .whole .now) 31
-    (widened (r .«pm_spin_raw») (f2 .0 .1) (w1 .wide .ensures) (w1 .wide .ok) i
+    widened (r .«pm_spin_raw») (f2 .0 .1) (w1 .wide .ensures) (w1 .wide .ok) i
     ∷ widened (r .«pm_spin_final») (f3 .0 .1) (w2 .wide2 .ensures) (w2 .wide2 .ok) i
     ∷ widened (r .«pm_spin_confidence») (f4 .0 .1) (w3 .wide3 .ensures) (w3 .wide3 .ok) i
     ∷ widened (r .«lift_spin») (f5 .0 .1) (w4 .wide4 .ensures) (w4 .wide4 .ok) i
@@ -61,15 +59,12 @@ returns c =
     ∷ widened (r .«pm_spin») (f14 .0 .1) (w11 .wide11 .ensures) (w11 .wide11 .ok) i
     ∷ widened (r .«aod_spin») (f16 .0 .1) (w12 .wide12 .ensures) (w12 .wide12 .ok) i
     ∷ widened (r .«pll_spin») (f17 .0 .1) (w13 .wide13 .ensures) (w13 .wide13 .ok) i
-    ∷ [])
+    ∷ []
 
-pub put-rest-spec : {M : Type 1} → statement M
-put-rest-spec =
+pub spin-rest-spec : {M : Type 1} → statement M
+spin-rest-spec =
     tie.close
     (tie.spec
-    (λ c κs. tt) (λ c. search needs) (λ c κs. tt) (λ c. search needs) (λ c κs. tt) (λ c. search needs)
-    (λ c κs. tt) (λ c. search needs) (λ c κs. tt) (λ c. search needs) (λ c κs. tt) (λ c. search needs)
-    (λ c κs. tt) (λ c. search needs) (λ c κs. tt) (λ c. search needs) (λ c κs. tt) (λ c. search needs)
-    (λ c. search needs) (λ c κs. tt) (λ c. search needs) (λ c κs. tt) (λ c. search needs) (λ c κs. tt)
-    (λ c. search needs) (λ c κs. tt) (λ c. search needs) (λ c κs. tt) (λ c. search needs)
+    (λ c κs. tt) (λ c κs. tt) (λ c κs. tt) (λ c κs. tt) (λ c κs. tt) (λ c κs. tt) (λ c κs. tt) (λ c κs. tt)
+    (λ c κs. tt) (λ c κs. tt) (λ c κs. tt) (λ c κs. tt) (λ c κs. tt) (λ c κs. tt)
     returns)
