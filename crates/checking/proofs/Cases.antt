@@ -8,7 +8,7 @@ use borrow.Author.Tests.{eq-eqb, ne-eqb, lt-ltb, le-ltb}
 use Rattle.error.specs.Refusal.{yes, no}
 use Rattle.addr.specs.declared.BusAddr.{BusAddr}
 use Rattle.addr.specs.Address.{addressRule}
-use Rattle.stuffing.specs.Unstuff.{unstuff, byteAt}
+use Rattle.unstuffing.specs.Unstuff.{unstuff, byteAt}
 use Rattle.encoding.specs.Wire.{fields}
 use Rattle.checking.specs.Rule.{then, interior, receivedOf, computedOf, payloadOf, addressesRule, sumRule, unitsRule, checkRule}
 
@@ -56,6 +56,7 @@ module _ (w : List ℕ) where
   unfolding checkRule
   bad-end h g k = rw (le-ltb _ _ h, eq-eqb _ _ g, ne-eqb _ _ k) refl
 
-  pub framed : 7 ≤ length w → getD w 0 0 ≡ 0xF0 → getD w (length w - 1) 0 ≡ 0xF1 → checkRule w ≡ then (unstuff 0 (interior w)) (unitsRule (length w) (interior w))
+  pub framed : 7 ≤ length w → getD w 0 0 ≡ 0xF0 → getD w (length w - 1) 0 ≡ 0xF1
+      → checkRule w ≡ then (unstuff 0 (interior w)) (unitsRule (length w) (interior w))
   unfolding checkRule
   framed h g k = rw (le-ltb _ _ h, eq-eqb _ _ g, eq-eqb _ _ k) refl

@@ -11,7 +11,7 @@ use borrow.Author.Tests.{ltb-false, eqb-true}
 use Rattle.error.specs.Refusal.{Told, yes, no}
 use Rattle.addr.specs.declared.BusAddr.{BusAddr}
 use Rattle.addr.specs.Address.{addressRule}
-use Rattle.stuffing.specs.Unstuff.{unstuff, byteAt}
+use Rattle.unstuffing.specs.Unstuff.{unstuff, byteAt}
 use Rattle.encoding.specs.Wire.{Fields, fields}
 use Rattle.checking.specs.Rule.{then, interior, receivedOf, computedOf, payloadOf, addressesRule, sumRule, unitsRule, checkRule}
 use Rattle.checking.proofs.Cases.{framed, many, matching, both-known}

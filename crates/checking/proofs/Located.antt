@@ -9,9 +9,9 @@ use lib.ListN.{length, take, drop, getD, length-drop}
 use lib.Seq.{take-nil, drop-drop, take-take, getD-drop, length-take-le}
 use Rattle.error.specs.Refusal.{Told, yes, onYes}
 use Rattle.stuffing.specs.Stuff.{unescapeOf}
-use Rattle.stuffing.specs.Unstuff.{unstuff, bytesOf, offsetAt}
-use Rattle.stuffing.specs.Proper.{Proper, none, byte, escape}
-use Rattle.stuffing.proofs.Proper.{units, unstuff-proper, proper-of}
+use Rattle.unstuffing.specs.Unstuff.{unstuff, bytesOf, offsetAt}
+use Rattle.unstuffing.specs.Proper.{Proper, none, byte, escape}
+use Rattle.unstuffing.proofs.Proper.{units, unstuff-proper, proper-of}
 use Rattle.encoding.specs.Wire.{Fields}
 use Rattle.checking.specs.Rule.{interior, payloadOf, unitsOf, headOf}
 use Rattle.checking.proofs.Checked.{Checked}

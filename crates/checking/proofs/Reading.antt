@@ -13,10 +13,10 @@ use Rattle.error.specs.Refusal.{Told, yes, no, onYes}
 use Rattle.addr.specs.declared.BusAddr.{BusAddr}
 use Rattle.addr.specs.Address.{addressRule}
 use Rattle.stuffing.specs.Stuff.{unescapeOf, sum16}
-use Rattle.stuffing.specs.Unstuff.{after, unstuff, bytesOf, byteAt, offsetAt}
-use Rattle.stuffing.specs.Proper.{Proper, none, byte, escape, kept, widthOf, valueOf}
-use Rattle.stuffing.proofs.Proper.{units, unstuff-proper, isYes, proper-of, length-units, kept-most}
-use Rattle.stuffing.proofs.Parting.{proper-append, kept-append, kept-none, unstuff-join, value-plain, FrontAt, front-at, cutOf, Back, back}
+use Rattle.unstuffing.specs.Unstuff.{after, unstuff, bytesOf, byteAt, offsetAt}
+use Rattle.unstuffing.specs.Proper.{Proper, none, byte, escape, kept, widthOf, valueOf}
+use Rattle.unstuffing.proofs.Proper.{units, unstuff-proper, isYes, proper-of, length-units, kept-most}
+use Rattle.unstuffing.proofs.Parting.{proper-append, kept-append, kept-none, unstuff-join, value-plain, FrontAt, front-at, cutOf, Back, back}
 use Rattle.encoding.specs.Wire.{Fields, fields}
 use Rattle.checking.specs.Rule.{then, receivedOf, computedOf, payloadOf, addressesRule, head, headAt, unitsOf}
 use Rattle.checking.specs.Walk.{Ends, frontRule}
@@ -117,8 +117,9 @@ module _ (s : List ℕ) (p : Proper s) (three : 3 ≤ kept s) where
             (past-src .is ∙ ap (after a (yes (valueOf (drop a s)))) (past-type .is ∙ ap (after b (yes (valueOf (drop b s)))) (unstuff-proper c (past-type .proper))))
 
       -- what the three of them tell, and the place behind them
-      pub head-told : (len t from : ℕ) (dest src : Told BusAddr) → dest ≡ addressRule (valueOf s) → src ≡ addressRule (valueOf (drop a s)) → t ≡ valueOf (drop b s)
-          → from ≡ b + widthOf (getD s b 0) → then dest (λ d. then src (λ r. yes (head d r t len (from + 1) (length s + 1)))) ≡ then (unstuff 0 s) (frontRule len (length s))
+      pub head-told : (len t from : ℕ) (dest src : Told BusAddr)
+          → dest ≡ addressRule (valueOf s) → src ≡ addressRule (valueOf (drop a s)) → t ≡ valueOf (drop b s) → from ≡ b + widthOf (getD s b 0)
+          → then dest (λ d. then src (λ r. yes (head d r t len (from + 1) (length s + 1)))) ≡ then (unstuff 0 s) (frontRule len (length s))
       unfolding frontRule
       head-told len t from dest src de se te fe =
           let n = b + widthOf (getD s b 0) in
@@ -139,7 +140,8 @@ bytes-append (u ∷ a) b = ap (λ (l : List ℕ). u .0 ∷ l) (bytes-append a b)
 
 -- what a rule answers, with the places and lengths that it is told
 head-of : (us : List (ℕ × ℕ)) (d s : Told BusAddr) (type n from to : ℕ) (p : List ℕ) → length p ≡ n → offsetAt us 3 ≡ from → offsetAt us (length us - 2) ≡ to
-    → onYes (headAt us) (then d (λ dest. then s (λ src. yes (fields dest src type p)))) ≡ then d (λ dest. then s (λ src. yes (head dest src type n (from + 1) (to + 1))))
+    → onYes (headAt us) (then d (λ dest. then s (λ src. yes (fields dest src type p))))
+    ≡ then d (λ dest. then s (λ src. yes (head dest src type n (from + 1) (to + 1))))
 head-of us (yes d) (yes s) type n from to p e f g = λ i. yes (head d s type (e i) (f i + 1) (g i + 1))
 head-of us (yes d) (no k vs) type n from to p e f g = refl
 head-of us (no k vs) s type n from to p e f g = refl
@@ -270,6 +272,7 @@ counted-yes s n e =
     record { us = units 0 p; is = u; length = l; proper = p; count = l ∙ length-units 0 p }
 
 -- what is told of an interior's units, told of the interior
-pub head-through : (t : Told (List (ℕ × ℕ))) (rule : List (ℕ × ℕ) → Told Fields) → onYes (headAt (unitsOf t)) (then t rule) ≡ then t (λ us. onYes (headAt us) (rule us))
+pub head-through : (t : Told (List (ℕ × ℕ))) (rule : List (ℕ × ℕ) → Told Fields)
+    → onYes (headAt (unitsOf t)) (then t rule) ≡ then t (λ us. onYes (headAt us) (rule us))
 head-through (yes us) rule = refl
 head-through (no k vs) rule = refl

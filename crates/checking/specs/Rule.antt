@@ -9,7 +9,7 @@ use Rattle.error.specs.Refusal.{Told, yes, no, refused}
 use Rattle.addr.specs.declared.BusAddr.{BusAddr}
 use Rattle.addr.specs.Address.{addressRule}
 use Rattle.stuffing.specs.Stuff.{sum16}
-use Rattle.stuffing.specs.Unstuff.{unstuff, bytesOf, byteAt, offsetAt}
+use Rattle.unstuffing.specs.Unstuff.{unstuff, bytesOf, byteAt, offsetAt}
 use Rattle.encoding.specs.Wire.{Fields, fields}
 use Rattle.checking.specs.declared.Head.{Head}
 use Rattle.checking.specs.declared.ResultHead.{ResultHead}

@@ -6,8 +6,8 @@ use mathlib.Core.List.{List, [], _∷_, _++_}
 use lib.ListN.{length, take, drop}
 use Rattle.error.specs.Refusal.{Told, yes}
 use Rattle.addr.specs.Address.{addressRule}
-use Rattle.stuffing.specs.Unstuff.{byteAt, offsetAt}
-use Rattle.stuffing.specs.Proper.{Proper, kept}
+use Rattle.unstuffing.specs.Unstuff.{byteAt, offsetAt}
+use Rattle.unstuffing.specs.Proper.{Proper, kept}
 use Rattle.checking.specs.declared.Head.{Head}
 use Rattle.checking.specs.Rule.{then, head}
 

@@ -4,8 +4,8 @@ ghost use mathlib.Core.Path.{_≡_};
 ghost use Prim.Native.Nat.{_+_, _-_, _*_, _<_, _≤_};
 ghost use lib.ListN.{length, drop, getD};
 ghost use Rattle.error.specs.Refusal.{onYes};
-ghost use Rattle.stuffing.specs.Unstuff.{unstuff};
-ghost use Rattle.stuffing.specs.Proper.{Proper, kept, widthOf, valueOf};
+ghost use Rattle.unstuffing.specs.Unstuff.{unstuff};
+ghost use Rattle.unstuffing.specs.Proper.{Proper, kept, widthOf, valueOf};
 ghost use Rattle.checking.specs.Rule.{then, sumRule, unitsRule, checkRule, headAt, headOf, toldHead};
 ghost use Rattle.checking.specs.Walk.{Ends, frontRule};
 use addr::BusAddr;
@@ -15,7 +15,7 @@ use error::WireError;
 use stuffing::checksum;
 use stuffing::select;
 use stuffing::unescape;
-use stuffing::unstuffed;
+use unstuffing::unstuffed;
 
 const START: u8 = 0xF0;
 

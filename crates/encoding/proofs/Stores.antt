@@ -1,23 +1,29 @@
--- Runs of stores: from the front, and those of a stuffed byte.
+-- Runs of stores: from the front, of a block and of a stuffed byte.
 -- Assumes nothing.
-use mathlib.Core.Path.{_≡_, sym, _∙_}
+use mathlib.Core.Path.{_≡_, sym, ap, _∙_}
 use mathlib.Core.Bool.{cond}
 use mathlib.Core.List.{List, _++_}
 use Prim.Native.Nat.{ℕ, _+_, _≤_}
 use native.Mathlib.Nat.{add-zero, zero-add}
 use native.Mathlib.Numerals.{add-one}
 use native.Mathlib.Omega.{arith}
-use lib.Dec.{eqb}
+use lib.Dec.{eqb, leb}
 use lib.ListN.{length, drop, set}
 use lib.Seq.{sets, sets-eq, set-set}
-use borrow.Author.Tests.{eq-eqb, ne-eqb}
+use borrow.Author.Tests.{eq-eqb, ne-eqb, le-leb}
 use Rattle.error.proofs.Cases.{by-eq}
-use Rattle.stuffing.specs.Stuff.{escapeOf, stuffByte}
+use Rattle.stuffing.specs.Stuff.{escapeOf, stuffByte, stuff}
 use Rattle.stuffing.proofs.Codes.{plain, escaped}
 
 -- a run of stores from the front: the list, and what was behind it
-pub front : (w old : List ℕ) → length w ≤ length old → sets old 0 w ≡ w ++ drop (length w) old
-front w old h = sets-eq w old 0 (rw zero-add h) ∙ rw zero-add
+pub front : (w old : List ℕ) {last : List ℕ} → length w ≤ length old → last ≡ sets old 0 w → last ≡ w ++ drop (length w) old
+front w old h e = e ∙ sets-eq w old 0 (rw zero-add h) ∙ rw zero-add
+
+-- a block that is its own stuffed form
+pub block-stored : (s a buf last : List ℕ) (at : ℕ) → length s ≡ 16 → a ≡ s → stuff s ≡ s → at + 16 ≤ length buf
+    → last ≡ cond (leb (at + 16) (length buf)) (sets buf at a) buf → (at + 16 ≡ at + length (stuff s)) × (last ≡ sets buf at (stuff s))
+block-stored s a buf last at n is same fits e =
+    (omega (arith, n, ap length same), e ∙ rw (le-leb (at + 16) (length buf) fits, is, same))
 
 -- a stuffed byte: its first store, and its last, which may be the same one
 module _ (b code : ℕ) (is : code ≡ escapeOf b) where

@@ -1,6 +1,6 @@
 -- A wire by its parts, as they are measured and as they are stored: the head, the payload, the checksum.
 -- Assumes nothing.
-use mathlib.Core.Path.{_≡_, ap, _∙_}
+use mathlib.Core.Path.{_≡_, sym, ap, _∙_}
 use mathlib.Core.List.{List, [], _∷_, _++_, append-assoc}
 use Prim.Native.Nat.{ℕ, _+_, _-_, _/_, _%_, _≤_}
 use native.Mathlib.Omega.{arith}
@@ -22,9 +22,13 @@ module _ (f : Fields) (head : List ℕ) (is : head ≡ byteOf (f .dest) ∷ byte
   unfolding bodyOf
   body-is = rw is (stuff-append (byteOf (f .dest) ∷ byteOf (f .src) ∷ f .type ∷ []) (f .payload))
 
-  pub cs-is : csOf f ≡ (sum16 (stuff head) + sum16 (stuff (f .payload))) % 65536
+  cs-is : csOf f ≡ (sum16 (stuff head) + sum16 (stuff (f .payload))) % 65536
   unfolding csOf
   cs-is = rw body-is (sum-append (stuff head) (stuff (f .payload)))
+
+  -- by the two tallies
+  pub cs-tallied : {h p n : ℕ} → h ≡ sum16 (stuff head) → p ≡ sum16 (stuff (f .payload)) → n ≡ (h + p) % 65536 → n ≡ csOf f
+  cs-tallied he pe e = e ∙ (λ j. (he j + pe j) % 65536) ∙ sym cs-is
 
   module _ (n : ℕ) (cs : n ≡ csOf f) where
     abbrev tail : List ℕ

@@ -10,11 +10,11 @@ ghost use Rattle.stuffing.specs.Stuff.{escapeOf, stuffByte, stuff};
 ghost use Rattle.encoding.specs.Wire.{fields, csOf, wireOf};
 ghost use Rattle.encoding.specs.Encode.{filled, encodeRule};
 use addr::BusAddr;
+use blocks::block;
+use blocks::put_block;
 use error::ResultUsize;
 use error::WireError;
-use stuffing::block;
 use stuffing::escape_code;
-use stuffing::put_block;
 use stuffing::select;
 use stuffing::tally;
 

@@ -7,7 +7,7 @@ use Rattle.error.specs.Refusal.{yes, no}
 use Rattle.addr.specs.declared.BusAddr.the-variants.{App, Dsp}
 use Rattle.addr.specs.Address.{addressRule}
 use Rattle.stuffing.specs.Stuff.{escapeOf, unescapeOf, stuffByte, sum16}
-use Rattle.stuffing.specs.Unstuff.{escapeAt, stepAt}
+use Rattle.unstuffing.specs.Unstuff.{escapeAt, stepAt}
 use Rattle.frame.specs.Wire.{Fields, fields, bodyOf, csOf, wireOf}
 use Rattle.frame.specs.Rule.{addressesRule, sumRule, unitsRule, checkRule, parseRule}
 

@@ -10,9 +10,9 @@ use lib.Seq.{take-at, getD-at, getD-append-add}
 use Rattle.error.specs.Refusal.{Told, yes}
 use Rattle.addr.proofs.Back.{address-back}
 use Rattle.stuffing.specs.Stuff.{stuff, sum16}
-use Rattle.stuffing.specs.Unstuff.{unstuff, byteAt, offsetAt}
+use Rattle.unstuffing.specs.Unstuff.{unstuff, byteAt, offsetAt}
 use Rattle.stuffing.proofs.Stuffing.{stuff-append, stuff-least}
-use Rattle.stuffing.proofs.Unstuffing.{placed, unstuff-stuff, bytes-placed, length-placed, offset-placed}
+use Rattle.unstuffing.proofs.Unstuffing.{placed, unstuff-stuff, bytes-placed, length-placed, offset-placed}
 use Rattle.frame.specs.Wire.{Fields, fields, bodyOf, csOf, wireOf}
 use Rattle.frame.specs.Rule.{then, encodeRule, interior, receivedOf, computedOf, payloadOf, unitsRule, checkRule, parseRule}
 use Rattle.checking.proofs.Cases.{framed, many, matching, both-known}

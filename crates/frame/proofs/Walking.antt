@@ -13,9 +13,9 @@ use lib.Seq.{sets, sets-eq, length-take-le, take-all, getD-drop, drop-drop, take
 use borrow.Author.Tests.{eq-eqb, ne-eqb, le-leb}
 use Rattle.error.proofs.Cases.{by-test, by-eq}
 use Rattle.stuffing.specs.Stuff.{unescapeOf}
-use Rattle.stuffing.specs.Unstuff.{bytesOf}
-use Rattle.stuffing.specs.Proper.{Proper, none, byte, escape, kept}
-use Rattle.stuffing.proofs.Proper.{units, code-other, kept-most}
+use Rattle.unstuffing.specs.Unstuff.{bytesOf}
+use Rattle.unstuffing.specs.Proper.{Proper, none, byte, escape, kept}
+use Rattle.unstuffing.proofs.Proper.{units, code-other, kept-most}
 use Rattle.frame.specs.Walk.{standsFor, raw, slots}
 
 -- ---- what is written

@@ -1,9 +1,5 @@
--- The laws of stuffing, of the sum and of unstuffing.
+-- The laws of stuffing and of the sum.
 pub mod Codes
 pub mod Stuffing
 pub mod Sums
-pub mod Unstuffing
-pub mod Proper
-pub mod Parting
-pub mod Blocks
 pub mod One

@@ -1,15 +1,10 @@
--- Two replies that a contract allows for one input are equal; those of the other functions are equations of the reply itself.
+-- Two replies that `tally`'s contract allows for one string are equal; those of the other functions are equations of the reply itself.
 -- Assumes nothing.
 use mathlib.Core.Path.{_≡_, sym, _∙_}
 use mathlib.Core.List.{List}
 use Prim.Native.Nat.{ℕ, _-_, _%_}
 use lib.ListN.{length}
-use Rattle.error.specs.Refusal.{onYes}
-use Rattle.error.specs.Result.{toldUsize}
-use Rattle.error.specs.declared.ResultUsize.{ResultUsize}
-use Rattle.error.proofs.Decides.{one-usize}
 use Rattle.stuffing.specs.Stuff.{stuff, sum16}
-use Rattle.stuffing.specs.Unstuff.{unstuff}
 use Rattle.stuffing.specs.declared.Stuffed.{Stuffed}
 
 pub one-tally : (s : List ℕ) {a b : Stuffed}
@@ -17,6 +12,3 @@ pub one-tally : (s : List ℕ) {a b : Stuffed}
     → b .more ≡ (length (stuff s) - length s) % 65536 → b .sum ≡ sum16 (stuff s)
     → a ≡ b
 one-tally s p q p′ q′ = λ i. record { more = (p ∙ sym p′) i; sum = (q ∙ sym q′) i }
-
-pub one-count : (s : List ℕ) {a b : ResultUsize} → toldUsize a ≡ onYes length (unstuff 0 s) → toldUsize b ≡ onYes length (unstuff 0 s) → a ≡ b
-one-count s = one-usize

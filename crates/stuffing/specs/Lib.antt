@@ -1,4 +1,2 @@
 -- What the contracts of `stuffing`, and the frame rules, cite.
 pub mod Stuff
-pub mod Unstuff
-pub mod Proper

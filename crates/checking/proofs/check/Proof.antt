@@ -4,7 +4,7 @@ use mathlib.Core.Path.{_≡_, sym, _∙_}
 use Prim.Native.Nat.{_-_}
 use native.Mathlib.Omega.{arith}
 use lib.ListN.{length}
-use Rattle.stuffing.specs.Unstuff.{unstuff}
+use Rattle.unstuffing.specs.Unstuff.{unstuff}
 use Rattle.checking.specs.Rule.{interior, unitsRule}
 use Rattle.checking.proofs.Cases.{short, bad-start, bad-end, framed}
 use Rattle.checking.proofs.Reading.{head-through}
@@ -53,7 +53,8 @@ returns-4 c =
     let i = j .before .before in
     let w = i .before .before .args .wire .now in
     let z : length w - 1 - 1 ≡ length w - 2 = omega arith in
-    rw (framed w (i .if1 .left) (j .if2 .left) (k .if3 .left)) (rw z at (c .check-interior .ensures) ∙ sym (head-through (unstuff 0 (interior w)) (unitsRule (length w) (interior w))))
+    rw (framed w (i .if1 .left) (j .if2 .left) (k .if3 .left))
+    (rw z at (c .check-interior .ensures) ∙ sym (head-through (unstuff 0 (interior w)) (unitsRule (length w) (interior w))))
 
 pub check-spec : {M : Type 1} → statement M
 check-spec =

@@ -8,8 +8,8 @@ use Rattle.error.specs.Refusal.{Told, yes}
 use Rattle.addr.specs.declared.BusAddr.{BusAddr}
 use Rattle.addr.specs.declared.ResultBusAddr.the-variants.{Ok, Err}
 use Rattle.addr.specs.Address.{addressRule, toldBusAddr}
-use Rattle.stuffing.specs.Unstuff.{unstuff}
-use Rattle.stuffing.specs.Proper.{valueOf}
+use Rattle.unstuffing.specs.Unstuff.{unstuff}
+use Rattle.unstuffing.specs.Proper.{valueOf}
 use Rattle.checking.specs.Rule.{then, head}
 use Rattle.checking.specs.Walk.{frontRule}
 use Rattle.checking.proofs.Reading.{dest-inside, src-proper, src-inside, type-proper, type-inside, payload-inside, head-told}
@@ -17,11 +17,13 @@ use Rattle.checking.proofs.check_head.Statement.{statement}
 use Rattle.checking.proofs.check_head.Tie as tie
 
 -- what the two address bytes tell
-dest-told : (c : tie.After-from-byte) → toldBusAddr (c .from-byte .result) ≡ addressRule (valueOf (c .before .before .before .before .before .before .args .body .now))
+dest-told : (c : tie.After-from-byte)
+    → toldBusAddr (c .from-byte .result) ≡ addressRule (valueOf (c .before .before .before .before .before .before .args .body .now))
 dest-told c = c .from-byte .ensures ∙ ap addressRule (c .before .value .ensures)
 
 src-told : (c : tie.After-from-byte2)
-    → toldBusAddr (c .from-byte2 .result) ≡ addressRule (valueOf (drop (c .before .before .before .before .before .before .next .result) (c .before .before .before .before .before .before .before .before .args .body .now)))
+    → toldBusAddr (c .from-byte2 .result)
+    ≡ addressRule (valueOf (drop (c .before .before .before .before .before .before .next .result) (c .before .before .before .before .before .before .before .before .args .body .now)))
 src-told c = c .from-byte2 .ensures ∙ ap addressRule (c .before .value2 .ensures)
 
 -- and with them the head, whatever the two answers are
@@ -39,7 +41,8 @@ module _ (c : tie.After-value3) where
       let m = place .before in
       let n = m .before in
       head-told (start .args .body .now) (start .pre .0) (start .pre .1) (n .next .result) (n .next .ensures) (m .next2 .result) (m .next2 .ensures)
-      (start .args .len) (c .value3 .result) (place .next3 .result) dest src (de ∙ dest-told (c .before .before .before)) (se ∙ src-told (c .before)) (c .value3 .ensures) (place .next3 .ensures)
+      (start .args .len) (c .value3 .result) (place .next3 .result) dest src (de ∙ dest-told (c .before .before .before)) (se ∙ src-told (c .before))
+      (c .value3 .ensures) (place .next3 .ensures)
 
 next-requires : tie.Need-next-requires
 next-requires c κs =
@@ -61,8 +64,11 @@ add-from c =
     let m = c .before in
     let n = m .before in
     let a = n .before .before in
-    let inside = payload-inside (a .args .body .now) (a .pre .0) (a .pre .1) (n .next .result) (n .next .ensures) (m .next2 .result) (m .next2 .ensures) (c .next3 .result) (c .next3 .ensures) in
-    omega (arith, inside)
+    omega (
+      arith,
+      payload-inside (a .args .body .now) (a .pre .0) (a .pre .1) (n .next .result) (n .next .ensures)
+          (m .next2 .result) (m .next2 .ensures) (c .next3 .result) (c .next3 .ensures),
+    )
 
 value-requires : tie.Need-value-requires
 value-requires c κs =
@@ -116,13 +122,15 @@ returns-2 : tie.Need-returns-2
 returns-2 c =
     let k = c .before .before .before .before in
     let v = k .before .before in
-    told v (toldBusAddr (Ok (k .d2 .given .0 .0))) (toldBusAddr (Err (c .before .s .given .0 .0))) (ap toldBusAddr (sym (k .d2 .given .1))) (ap toldBusAddr (sym (c .before .s .given .1)))
+    told v (toldBusAddr (Ok (k .d2 .given .0 .0))) (toldBusAddr (Err (c .before .s .given .0 .0)))
+    (ap toldBusAddr (sym (k .d2 .given .1))) (ap toldBusAddr (sym (c .before .s .given .1)))
 
 returns-3 : tie.Need-returns-3
 returns-3 c =
     let k = c .before .before .before .before in
     let v = k .before .before in
-    told v (toldBusAddr (Ok (k .d2 .given .0 .0))) (toldBusAddr (Ok (c .before .s2 .given .0 .0))) (ap toldBusAddr (sym (k .d2 .given .1))) (ap toldBusAddr (sym (c .before .s2 .given .1)))
+    told v (toldBusAddr (Ok (k .d2 .given .0 .0))) (toldBusAddr (Ok (c .before .s2 .given .0 .0)))
+    (ap toldBusAddr (sym (k .d2 .given .1))) (ap toldBusAddr (sym (c .before .s2 .given .1)))
 
 pub check-head-spec : {M : Type 1} → statement M
 check-head-spec =

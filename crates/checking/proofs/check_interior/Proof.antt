@@ -6,7 +6,7 @@ use native.Mathlib.Omega.{arith}
 use lib.ListN.{length}
 use Rattle.error.specs.Refusal.{numberOf, valuesOf}
 use Rattle.error.specs.Result.{toldUsize}
-use Rattle.stuffing.specs.Unstuff.{unstuff}
+use Rattle.unstuffing.specs.Unstuff.{unstuff}
 use Rattle.checking.proofs.Cases.{few, many}
 use Rattle.checking.proofs.Reading.{Counted, counted-no, counted-yes}
 use Rattle.checking.proofs.check_interior.Statement.{statement}

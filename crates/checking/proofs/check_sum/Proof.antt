@@ -7,9 +7,9 @@ use native.Mathlib.Omega.{arith}
 use lib.ListN.{length, take, drop, getD}
 use lib.Seq.{length-take-le}
 use Rattle.error.specs.Refusal.{Told, no, onYes}
-use Rattle.stuffing.specs.Unstuff.{unstuff}
-use Rattle.stuffing.specs.Proper.{widthOf, valueOf}
-use Rattle.stuffing.proofs.Proper.{unstuff-proper}
+use Rattle.unstuffing.specs.Unstuff.{unstuff}
+use Rattle.unstuffing.specs.Proper.{widthOf, valueOf}
+use Rattle.unstuffing.proofs.Proper.{unstuff-proper}
 use Rattle.encoding.specs.Wire.{Fields}
 use Rattle.checking.specs.Rule.{then, receivedOf, computedOf, addressesRule, sumRule, headAt}
 use Rattle.checking.specs.Walk.{frontRule}

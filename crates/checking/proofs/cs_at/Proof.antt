@@ -4,8 +4,8 @@ use Prim.Native.Nat.{_<_, _≤_}
 use native.Mathlib.Omega.{arith}
 use lib.ListN.{length, take}
 use lib.Seq.{length-take-le}
-use Rattle.stuffing.proofs.Proper.{kept-most}
-use Rattle.stuffing.proofs.Parting.{cutOf}
+use Rattle.unstuffing.proofs.Proper.{kept-most}
+use Rattle.unstuffing.proofs.Parting.{cutOf}
 use Rattle.checking.specs.Walk.{Ends}
 use Rattle.checking.proofs.Reading.{ends}
 use Rattle.checking.proofs.cs_at.Statement.{statement}

@@ -3,7 +3,7 @@ use borrow.Author.Needs.{needs}
 use Prim.Native.Nat.{_-_}
 use native.Mathlib.Omega.{arith}
 use lib.ListN.{length, getD}
-use Rattle.stuffing.proofs.Unstuffing.{width-most}
+use Rattle.unstuffing.proofs.Unstuffing.{width-most}
 use Rattle.checking.proofs.cut.Statement.{statement}
 use Rattle.checking.proofs.cut.Tie as tie
 

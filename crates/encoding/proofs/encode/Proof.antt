@@ -1,6 +1,6 @@
 -- `RawFrame::encode` meets its contract: each return is the rule's case.
 use borrow.Author.Needs.{needs}
-use mathlib.Core.Path.{refl, ap, _∙_}
+use mathlib.Core.Path.{refl, ap}
 use Prim.Native.Nat.{_≤_}
 use lib.ListN.{length}
 use Rattle.error.specs.Refusal.{yes}
@@ -45,7 +45,7 @@ returns-3 c =
     let e = m .measure .ensures .0 in
     let room : length (wireOf (frameOf a)) ≤ length (a .args .wire .now) = rw (← e) (f .if2 .left) in
     rw (encode-fits (frameOf a) (length (a .args .wire .now)) (i .if1 .left) room)
-    (ap yes e, p .put-wire .ensures ∙ front (wireOf (frameOf a)) (a .args .wire .now) room)
+    (ap yes e, front (wireOf (frameOf a)) (a .args .wire .now) room (p .put-wire .ensures))
 
 pub encode-spec : {M : Type 1} → statement M
 encode-spec =

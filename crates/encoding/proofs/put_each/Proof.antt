@@ -1,7 +1,8 @@
 -- `put_each` meets its contract: what is stored, and the stores to come, are those of the stuffed string.
 use borrow.Author.Needs.{needs}
-use mathlib.Core.Path.{_≡_, refl, ap}
-use Prim.Native.Nat.{_+_, _-_, _≤_}
+use mathlib.Core.Path.{_≡_, refl, sym, ap, _∙_}
+use mathlib.Core.List.{List}
+use Prim.Native.Nat.{ℕ, _+_, _-_, _≤_, _<_}
 use native.Mathlib.Omega.{arith}
 use lib.ListN.{length, drop, getD, length-append, drop-of-length-le}
 use lib.Seq.{sets, length-sets}
@@ -20,6 +21,19 @@ Inv-loop s buf₀ at i₀ o₀ buf i o =
 
 abbrev μ-loop : tie.MeasureT-loop
 μ-loop s buf₀ at i₀ o₀ buf i o = length s - i
+
+-- one byte more
+turn : (s buf₀ buf buf′ : List ℕ) (at i o o′ : ℕ) → i < length s → Inv-loop s buf₀ at 0 at buf i o
+    → o′ ≡ o + length (stuffByte (getD s i 0)) → buf′ ≡ sets buf o (stuffByte (getD s i 0)) → Inv-loop s buf₀ at 0 at buf′ (i + 1) o′
+turn s buf₀ buf buf′ at i o o′ h inv oe be =
+    let x = stuffByte (getD s i 0) in
+    let r = stuff (drop (i + 1) s) in
+    let e = stuff-at s i h in (
+      omega (arith, h),
+      omega (arith, ap length e, length-append x r, oe, inv .1),
+      (λ j. sets (be j) (oe j) r) ∙ sets-append x r buf o ∙ ap (sets buf o) (sym e) ∙ inv .2,
+      ap length be ∙ length-sets buf o x ∙ inv .3,
+    )
 
 loop-holds : tie.Need-loop-holds Inv-loop μ-loop
 loop-holds c = (search needs, refl, refl, refl)
@@ -47,17 +61,9 @@ loop-again c =
     let p = c .before .before in
     let t = p .before .before .before in
     let l = t .before in
-    let s = l .before .before .before .args .s .now in
-    let i = l .loop .i in
-    let b = l .loop .buf in
-    let o = l .loop .o in
-    let x = getD s i 0 in
-    let e = stuff-at s i (t .loop-test .taken) in (
-      omega arith,
-      omega (arith, ap length e, length-append (stuffByte x) (stuff (drop (i + 1) s))),
-      cc (sets-append (stuffByte x) (stuff (drop (i + 1) s)) b o),
-      omega (arith, ap length (p .put-byte .ensures .1), length-sets b o (stuffByte x)),
-    )
+    let a = l .before .before .before .args in
+    turn (a .s .now) (a .buf .now) (l .loop .buf) (p .put-byte .last .1 .0) (a .at) (l .loop .i) (l .loop .o) (p .put-byte .result)
+    (t .loop-test .taken) (l .loop .inv) (p .put-byte .ensures .0) (p .put-byte .ensures .1)
 
 same-length : tie.Need-same-length Inv-loop μ-loop
 same-length c = search needs

@@ -1,12 +1,12 @@
 -- `put_sixteen` meets its contract: a block with no code is its own stuffed form.
 use borrow.Author.Needs.{needs}
-use borrow.Author.Tests.{le-leb}
 use mathlib.Core.Path.{_≡_, ap, _∙_}
-use Prim.Native.Nat.{_+_}
+use Prim.Native.Nat.{_+_, _≤_}
 use native.Mathlib.Omega.{arith}
 use lib.ListN.{length, replicate}
 use lib.Seq.{take-at}
 use Rattle.stuffing.specs.Stuff.{stuff}
+use Rattle.encoding.proofs.Stores.{block-stored}
 use Rattle.encoding.proofs.put_sixteen.Statement.{statement}
 use Rattle.encoding.proofs.put_sixteen.Tie as tie
 
@@ -39,8 +39,10 @@ returns c =
     let p = c .before .before in
     let i = p .before .before in
     let a = i .before .before .before .before .before in
-    let room = le-leb (a .args .at + 16) (length (a .args .buf .now)) (omega (arith, ap length (same i), a .pre .0, a .pre .1)) in
-    rw (same i) (omega (arith, a .pre .0), p .put-block .ensures ∙ rw (room, is-block (i .before .before)))
+    let b = i .before .before in
+    let fits : a .args .at + 16 ≤ length (a .args .buf .now) = omega (arith, ap length (same i), a .pre .0, a .pre .1) in
+    block-stored (a .args .s .now) (b .block .result) (a .args .buf .now) (p .put-block .last .1 .0) (a .args .at) (a .pre .0)
+    (is-block b) (same i) fits (p .put-block .ensures)
 
 put-each-requires : tie.Need-put-each-requires
 put-each-requires c κs = search needs

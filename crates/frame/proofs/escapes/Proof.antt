@@ -10,8 +10,8 @@ use lib.Bits.{bitOr}
 use lib.Dec.{eqb}
 use lib.ListN.{length, drop, getD, drop-of-length-le}
 use lib.Seq.{drop-cons}
-use Rattle.stuffing.specs.Proper.{kept}
-use Rattle.stuffing.proofs.Proper.{both-zero, kept-flag}
+use Rattle.unstuffing.specs.Proper.{kept}
+use Rattle.unstuffing.proofs.Proper.{both-zero, kept-flag}
 use Rattle.frame.proofs.escapes.Statement.{statement}
 use Rattle.frame.proofs.escapes.Tie as tie
 

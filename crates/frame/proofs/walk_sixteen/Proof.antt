@@ -6,8 +6,8 @@ use Prim.Native.Nat.{_+_, _≤_}
 use native.Mathlib.Omega.{arith}
 use lib.ListN.{length, replicate}
 use lib.Seq.{take-at}
-use Rattle.stuffing.specs.Proper.{kept}
-use Rattle.stuffing.proofs.Proper.{both-zero}
+use Rattle.unstuffing.specs.Proper.{kept}
+use Rattle.unstuffing.proofs.Proper.{both-zero}
 use Rattle.frame.proofs.Walking.{kept-slots, block-walked}
 use Rattle.frame.proofs.walk_sixteen.Statement.{statement}
 use Rattle.frame.proofs.walk_sixteen.Tie as tie

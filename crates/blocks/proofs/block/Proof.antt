@@ -8,9 +8,9 @@ use native.Mathlib.Nat.{le-antisymm}
 use native.Mathlib.Omega.{arith}
 use lib.ListN.{length, take, getD, set, replicate, length-set, length-append}
 use lib.Seq.{take-all, take-suc, take-suc-set}
-use Rattle.stuffing.proofs.Blocks.{behind}
-use Rattle.stuffing.proofs.block.Statement.{statement}
-use Rattle.stuffing.proofs.block.Tie as tie
+use Rattle.blocks.proofs.Blocks.{behind}
+use Rattle.blocks.proofs.block.Statement.{statement}
+use Rattle.blocks.proofs.block.Tie as tie
 
 abbrev Inv-loop : tie.InvT-loop
 Inv-loop s a₀ k₀ a k = (k ≤ 16) × (length a ≡ 16) × (take k a ≡ take k (s ++ replicate 16 0))

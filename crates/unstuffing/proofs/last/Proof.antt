@@ -4,8 +4,8 @@ use mathlib.Core.Path.{sym}
 use native.Mathlib.Omega.{arith}
 use lib.ListN.{length, List·getD-eq-default}
 use Prim.Native.Nat.{_-_}
-use Rattle.stuffing.proofs.last.Statement.{statement}
-use Rattle.stuffing.proofs.last.Tie as tie
+use Rattle.unstuffing.proofs.last.Statement.{statement}
+use Rattle.unstuffing.proofs.last.Tie as tie
 
 sub-result : tie.Need-sub-result
 sub-result c = search needs

@@ -9,11 +9,11 @@ use lib.Bits.{bitOr}
 use lib.Dec.{eqb}
 use lib.ListN.{length, drop, getD, drop-of-length-le}
 use lib.Seq.{drop-cons}
-use Rattle.stuffing.specs.Proper.{Proper, none, kept}
-use Rattle.stuffing.proofs.Proper.{faultOf, proper-pair, proper-last, both-zero, kept-flag}
+use Rattle.unstuffing.specs.Proper.{Proper, none, kept}
+use Rattle.unstuffing.proofs.Proper.{faultOf, proper-pair, proper-last, both-zero, kept-flag}
 use Rattle.stuffing.proofs.Sums.{counted}
-use Rattle.stuffing.proofs.survey.Statement.{statement}
-use Rattle.stuffing.proofs.survey.Tie as tie
+use Rattle.unstuffing.proofs.survey.Statement.{statement}
+use Rattle.unstuffing.proofs.survey.Tie as tie
 
 abbrev Inv-loop : tie.InvT-loop
 Inv-loop s count₀ faults₀ i₀ count faults i =

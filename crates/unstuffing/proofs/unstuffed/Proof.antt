@@ -5,10 +5,10 @@ use Prim.Native.Nat.{_+_, _-_}
 use native.Mathlib.Omega.{arith}
 use lib.ListN.{length}
 use Rattle.error.specs.Refusal.{Told, yes, onYes}
-use Rattle.stuffing.specs.Proper.{Proper, kept}
-use Rattle.stuffing.proofs.Proper.{unstuff-proper, length-units, kept-most}
-use Rattle.stuffing.proofs.unstuffed.Statement.{statement}
-use Rattle.stuffing.proofs.unstuffed.Tie as tie
+use Rattle.unstuffing.specs.Proper.{Proper, kept}
+use Rattle.unstuffing.proofs.Proper.{unstuff-proper, length-units, kept-most}
+use Rattle.unstuffing.proofs.unstuffed.Statement.{statement}
+use Rattle.unstuffing.proofs.unstuffed.Tie as tie
 
 -- the FDs were counted without a wrap
 exact : (c : tie.After-survey) → c .survey .result .count + kept (c .before .before .before .args .s .now) ≡ length (c .before .before .before .args .s .now)

@@ -1,7 +1,7 @@
 -- `fault` meets its contract: the selections are its tests.
 use borrow.Author.Needs.{needs}
-use Rattle.stuffing.proofs.fault.Statement.{statement}
-use Rattle.stuffing.proofs.fault.Tie as tie
+use Rattle.unstuffing.proofs.fault.Statement.{statement}
+use Rattle.unstuffing.proofs.fault.Tie as tie
 
 unescape-requires : tie.Need-unescape-requires
 unescape-requires c κs = search needs

@@ -7,9 +7,9 @@ use Prim.Native.Nat.{_+_}
 use native.Mathlib.Omega.{arith}
 use lib.ListN.{drop, drop-of-length-le}
 use lib.Seq.{drop-cons}
-use Rattle.stuffing.specs.Unstuff.{escapeAt, stepAt}
-use Rattle.stuffing.proofs.step.Statement.{statement}
-use Rattle.stuffing.proofs.step.Tie as tie
+use Rattle.unstuffing.specs.Unstuff.{escapeAt, stepAt}
+use Rattle.unstuffing.proofs.step.Statement.{statement}
+use Rattle.unstuffing.proofs.step.Tie as tie
 
 shared-slice-read-b : tie.Need-shared-slice-read-b
 shared-slice-read-b c = search needs

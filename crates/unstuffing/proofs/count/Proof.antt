@@ -6,11 +6,11 @@ use Prim.Native.Nat.{ℕ, _+_, _-_, _≤_}
 use native.Mathlib.Omega.{arith}
 use lib.ListN.{length, drop, getD, drop-of-length-le}
 use Rattle.error.specs.Refusal.{Told, yes, no, onYes}
-use Rattle.stuffing.specs.Proper.{widthOf}
-use Rattle.stuffing.specs.Unstuff.{toldU8, after, unstuff}
-use Rattle.stuffing.proofs.Unstuffing.{width-most, unstuff-at}
-use Rattle.stuffing.proofs.count.Statement.{statement}
-use Rattle.stuffing.proofs.count.Tie as tie
+use Rattle.unstuffing.specs.Proper.{widthOf}
+use Rattle.unstuffing.specs.Unstuff.{toldU8, after, unstuff}
+use Rattle.unstuffing.proofs.Unstuffing.{width-most, unstuff-at}
+use Rattle.unstuffing.proofs.count.Statement.{statement}
+use Rattle.unstuffing.proofs.count.Tie as tie
 
 abbrev counted : ℕ → Told (List (ℕ × ℕ)) → Told ℕ
 counted n t = onYes (λ us. n + length us) t

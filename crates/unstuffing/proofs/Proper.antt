@@ -11,10 +11,10 @@ use lib.ListN.{length}
 use borrow.Author.Tests.{eq-eqb, ne-eqb}
 use Rattle.error.specs.Refusal.{Told, yes, no}
 use Rattle.error.proofs.Cases.{by-test, by-eq}
 use Rattle.stuffing.specs.Stuff.{unescapeOf}
-use Rattle.stuffing.specs.Proper.{Proper, none, byte, escape, kept}
-use Rattle.stuffing.specs.Unstuff.{escapeAt, stepAt, after, unstuff}
-use Rattle.stuffing.proofs.Unstuffing.{step-plain, step-escape}
+use Rattle.unstuffing.specs.Proper.{Proper, none, byte, escape, kept}
+use Rattle.unstuffing.specs.Unstuff.{escapeAt, stepAt, after, unstuff}
+use Rattle.unstuffing.proofs.Unstuffing.{step-plain, step-escape}
 
 -- what it unstuffs to, its first byte being at offset i
 unfoldable pub units : (i : ℕ) {s : List ℕ} → Proper s → List (ℕ × ℕ)

@@ -6,9 +6,9 @@ use mathlib.Core.List.{List, [], _∷_, map}
 use lib.Dec.{eqb}
 use lib.ListN.{getD}
 use Rattle.error.specs.Refusal.{Told, yes, no, refused, onYes}
 use Rattle.stuffing.specs.Stuff.{unescapeOf}
-use Rattle.stuffing.specs.declared.ResultU8.{ResultU8}
-use Rattle.stuffing.specs.declared.ResultU8.the-variants.{Ok, Err}
+use Rattle.unstuffing.specs.declared.ResultU8.{ResultU8}
+use Rattle.unstuffing.specs.declared.ResultU8.the-variants.{Ok, Err}
 
 -- what an FD at offset i stands for, by what follows it; a lone FD at the end gives code 00
 unfoldable pub escapeAt : ℕ → List ℕ → Told ℕ

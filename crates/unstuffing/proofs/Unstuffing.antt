@@ -12,10 +12,10 @@ use lib.Seq.{drop-cons, drop-drop}
 use borrow.Author.Tests.{ne-eqb}
 use Rattle.error.specs.Refusal.{yes, onYes}
 use Rattle.error.proofs.Cases.{by-test, by-eq}
 use Rattle.stuffing.specs.Stuff.{escapeOf, unescapeOf, stuffByte, stuff}
-use Rattle.stuffing.specs.Proper.{widthOf}
-use Rattle.stuffing.specs.Unstuff.{escapeAt, stepAt, after, unstuff, bytesOf, offsetAt}
+use Rattle.unstuffing.specs.Proper.{widthOf}
+use Rattle.unstuffing.specs.Unstuff.{escapeAt, stepAt, after, unstuff, bytesOf, offsetAt}
 use Rattle.stuffing.proofs.Codes.{plain, escaped, unescape-escape}
 
 -- ---- a step of unstuffing
 

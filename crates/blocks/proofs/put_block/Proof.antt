@@ -7,9 +7,9 @@ use native.Mathlib.Nat.{add-zero}
 use native.Mathlib.Omega.{arith}
 use lib.ListN.{length, drop, length-set, drop-of-length-le}
 use lib.Seq.{sets}
-use Rattle.stuffing.proofs.Blocks.{sets-from}
-use Rattle.stuffing.proofs.put_block.Statement.{statement}
-use Rattle.stuffing.proofs.put_block.Tie as tie
+use Rattle.blocks.proofs.Blocks.{sets-from}
+use Rattle.blocks.proofs.put_block.Statement.{statement}
+use Rattle.blocks.proofs.put_block.Tie as tie
 
 abbrev Inv-loop : tie.InvT-loop
 Inv-loop buf₀ at a k₀ buf k =

@@ -9,11 +9,11 @@ use lib.ListN.{length, take, drop, getD, length-drop}
 use lib.Seq.{drop-drop, getD-drop}
 use borrow.Author.Tests.{eq-eqb, ne-eqb}
 use Rattle.error.specs.Refusal.{Told, yes}
 use Rattle.stuffing.specs.Stuff.{unescapeOf}
-use Rattle.stuffing.specs.Unstuff.{escapeAt, stepAt, after, unstuff}
-use Rattle.stuffing.specs.Proper.{Proper, none, byte, escape, kept, widthOf, valueOf}
-use Rattle.stuffing.proofs.Unstuffing.{step-plain, step-escape, width-most, unstuff-at}
-use Rattle.stuffing.proofs.Proper.{units, code-other}
+use Rattle.unstuffing.specs.Unstuff.{escapeAt, stepAt, after, unstuff}
+use Rattle.unstuffing.specs.Proper.{Proper, none, byte, escape, kept, widthOf, valueOf}
+use Rattle.unstuffing.proofs.Unstuffing.{step-plain, step-escape, width-most, unstuff-at}
+use Rattle.unstuffing.proofs.Proper.{units, code-other}
 
 -- ---- joined
 

@@ -1,0 +1,2 @@
+-- What blocks are proved by.
+pub mod Blocks

@@ -1,0 +1,5 @@
+-- The laws of unstuffing.
+pub mod Unstuffing
+pub mod Proper
+pub mod Parting
+pub mod One

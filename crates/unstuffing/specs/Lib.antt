@@ -1,0 +1,3 @@
+-- What the contract of `unstuffed`, and the frame rules, cite.
+pub mod Unstuff
+pub mod Proper
