@@ -1,5 +1,5 @@
 -- What the code of `frame` is proved to ensure, as the check reads it off src/lib.rt (`Post`), is what the theorem asks of a frame that
--- is sent and gives of one that is parsed. (That of `splitter`: its proofs/Contract.) Assumes nothing.
+-- is sent and gives of one that is parsed. (That of `splitter` and of `view`: stream, proofs/Contract.) Assumes nothing.
 use mathlib.Core.Path.{_≡_, sym, ap, _∙_}
 use mathlib.Core.List.{List, _++_}
 use Prim.Native.Nat.{ℕ, _≤_}
