@@ -5,14 +5,9 @@ ghost use mathlib.Core.Bool.{cond};
 ghost use mathlib.Core.List.{_++_};
 ghost use Prim.Native.Nat.{_+_};
 ghost use lib.Dec.{leb};
-ghost use lib.ListN.{length, getD, take, replicate};
+ghost use lib.ListN.{length, take, replicate};
 ghost use lib.Seq.{sets};
-
-fn byte_at(s: &[u8], k: usize) -> u8
-    ensures { λ r. ⌜ r ≡ getD (now (s .entry)) k 0 ⌝ }
-{
-    if k < s.len() { s[k] } else { 0 }
-}
+use integer::byte_at;
 
 // The first sixteen bytes of a string; past its end they are 0.
 pub fn block(s: &[u8]) -> [u8; 16]

@@ -38,6 +38,25 @@ pub enum ResultHead {
     Err(WireError),
 }
 
+// The header of a wire, and where its payload lies, or the first test that it fails.
+pub fn check(wire: &[u8]) -> ResultHead
+    ensures { λ r. ⌜ toldHead r ≡ onYes (headOf (now (wire .entry))) (checkRule (now (wire .entry))) ⌝ }
+{
+    let n = wire.len();
+    if n < 7 {
+        return ResultHead::Err(WireError::FrameTooShort { len: n });
+    }
+    let first = wire[0];
+    if first != START {
+        return ResultHead::Err(WireError::MissingStart { got: first });
+    }
+    let end = n - 1;
+    if wire[end] != END {
+        return ResultHead::Err(WireError::MissingEnd);
+    }
+    check_interior(&wire[1..end], n)
+}
+
 // ---- finding the way in a proper string
 
 // The unstuffed byte at a place, and the place after it.
@@ -142,23 +161,4 @@ fn check_interior(s: &[u8], whole: usize) -> ResultHead
             }
         }
     }
-}
-
-// The header of a wire, and where its payload lies, or the first test that it fails.
-pub fn check(wire: &[u8]) -> ResultHead
-    ensures { λ r. ⌜ toldHead r ≡ onYes (headOf (now (wire .entry))) (checkRule (now (wire .entry))) ⌝ }
-{
-    let n = wire.len();
-    if n < 7 {
-        return ResultHead::Err(WireError::FrameTooShort { len: n });
-    }
-    let first = wire[0];
-    if first != START {
-        return ResultHead::Err(WireError::MissingStart { got: first });
-    }
-    let end = n - 1;
-    if wire[end] != END {
-        return ResultHead::Err(WireError::MissingEnd);
-    }
-    check_interior(&wire[1..end], n)
 }

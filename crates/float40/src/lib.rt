@@ -32,15 +32,6 @@ pub fn float40_at(data: &[u8], offset: usize) -> f64
     front(&data[offset..])
 }
 
-// The FLOAT40 at the front: of a part, so that the compiler drops the tests of a part that is long enough.
-fn front(data: &[u8]) -> f64
-    ensures { λ r. ⌜ r ≡ float40At (now («data» .entry)) 0 ⌝ }
-{
-    let e = integer::int16_at(data, 0);
-    let m = integer::int24_at(data, 2);
-    float40_of(e, m)
-}
-
 // The value of an exponent and a mantissa: one product. 0 times an infinite power would be no number.
 pub fn float40_of(e: i16, m: i32) -> f64
     ensures { λ r. ⌜ r ≡ value40 e m ⌝ }
@@ -49,6 +40,15 @@ pub fn float40_of(e: i16, m: i32) -> f64
         return 0.0;
     }
     m as f64 * exp2(e as i32 - 23)
+}
+
+// The FLOAT40 at the front: of a part, so that the compiler drops the tests of a part that is long enough.
+fn front(data: &[u8]) -> f64
+    ensures { λ r. ⌜ r ≡ float40At (now («data» .entry)) 0 ⌝ }
+{
+    let e = integer::int16_at(data, 0);
+    let m = integer::int24_at(data, 2);
+    float40_of(e, m)
 }
 
 // The float 2^k: exact from -1074 to 1023, +0.0 below and infinity above.

@@ -32,16 +32,6 @@ pub fn write_float40_bits(buf: &mut [u8], offset: usize, bits: u64) -> ResultUni
     ResultUnit::Ok
 }
 
-// The five bytes, over a part of five.
-fn lay(buf: &mut [u8], bits: u64)
-    requires { ⌜ length (now buf) ≡ 5 ⌝ }
-    ensures { λ _. ⌜ now (buf .exit) ≡ bytes40 bits ⌝ }
-{
-    let parts = parts_of(bits);
-    integer_write::write_int16(buf, 0, parts.exponent);
-    integer_write::write_int24(buf, 2, parts.mantissa);
-}
-
 // The 64 bits of a float, every NaN as one.
 pub fn bits_of(value: f64) -> u64
     ensures { λ r. ⌜ r ≡ bits64 value ⌝ }
@@ -50,6 +40,16 @@ pub fn bits_of(value: f64) -> u64
         return 0x7FF8_0000_0000_0000;
     }
     f64::to_bits(value)
+}
+
+// The five bytes, over a part of five.
+fn lay(buf: &mut [u8], bits: u64)
+    requires { ⌜ length (now buf) ≡ 5 ⌝ }
+    ensures { λ _. ⌜ now (buf .exit) ≡ bytes40 bits ⌝ }
+{
+    let parts = parts_of(bits);
+    integer_write::write_int16(buf, 0, parts.exponent);
+    integer_write::write_int24(buf, 2, parts.mantissa);
 }
 
 // e and m.

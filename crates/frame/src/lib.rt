@@ -35,6 +35,54 @@ pub enum ResultRawFrame {
     Err(WireError),
 }
 
+impl RawFrame {
+    // The wire of a frame at the buffer's front, and its length.
+    pub fn encode(
+        dest: BusAddr,
+        src: BusAddr,
+        type_id: u8,
+        payload: &[u8],
+        wire: &mut [u8],
+    ) -> ResultUsize
+        ensures reply { λ r. ⌜ toldUsize r ≡ onYes length (encodeRule (fields dest src «type_id» (now (payload .entry))) (length (now (wire .entry)))) ⌝ }
+        ensures bytes { λ r. ⌜ now (wire .exit) ≡ filled (encodeRule (fields dest src «type_id» (now (payload .entry))) (length (now (wire .entry)))) (now (wire .entry)) ⌝ }
+    {
+        encoding::encode(dest, src, type_id, payload, wire)
+    }
+
+    // The header of a wire and its payload's length; the payload fills the buffer's front.
+    pub fn parse(wire: &[u8], payload: &mut [u8]) -> ResultRawFrame
+        ensures reply { λ r. ⌜ toldRawFrame r ≡ onYes headerOf (parseRule (now (wire .entry)) (length (now (payload .entry)))) ⌝ }
+        ensures bytes { λ r. ⌜ now (payload .exit) ≡ filled (onYes (λ f. f .payload) (parseRule (now (wire .entry)) (length (now (payload .entry))))) (now (payload .entry)) ⌝ }
+    {
+        let checked = check(wire);
+        match checked {
+            ResultHead::Err(e) => ResultRawFrame::Err(e),
+            ResultHead::Ok(head) => {
+                let len = head.len;
+                let room = payload.len();
+                if room < len {
+                    return ResultRawFrame::Err(WireError::NoRoom {
+                        need: len,
+                        got: room,
+                    });
+                }
+                let from = head.from;
+                let to = head.to;
+                copy(&wire[from..to], &mut payload[..len]);
+                let dest = head.dest;
+                let src = head.src;
+                ResultRawFrame::Ok(RawFrame {
+                    dest,
+                    src,
+                    type_id: head.type_id,
+                    len,
+                })
+            }
+        }
+    }
+}
+
 // ---- copying: what stuffed bytes stand for, without a branch on them
 
 // 0 where the block has no FD.
@@ -96,52 +144,4 @@ fn copy(s: &[u8], buf: &mut [u8])
         p = s[i - 1];
     }
     walk(&s[i..], p, buf, o);
-}
-
-impl RawFrame {
-    // The wire of a frame at the buffer's front, and its length.
-    pub fn encode(
-        dest: BusAddr,
-        src: BusAddr,
-        type_id: u8,
-        payload: &[u8],
-        wire: &mut [u8],
-    ) -> ResultUsize
-        ensures reply { λ r. ⌜ toldUsize r ≡ onYes length (encodeRule (fields dest src «type_id» (now (payload .entry))) (length (now (wire .entry)))) ⌝ }
-        ensures bytes { λ r. ⌜ now (wire .exit) ≡ filled (encodeRule (fields dest src «type_id» (now (payload .entry))) (length (now (wire .entry)))) (now (wire .entry)) ⌝ }
-    {
-        encoding::encode(dest, src, type_id, payload, wire)
-    }
-
-    // The header of a wire and its payload's length; the payload fills the buffer's front.
-    pub fn parse(wire: &[u8], payload: &mut [u8]) -> ResultRawFrame
-        ensures reply { λ r. ⌜ toldRawFrame r ≡ onYes headerOf (parseRule (now (wire .entry)) (length (now (payload .entry)))) ⌝ }
-        ensures bytes { λ r. ⌜ now (payload .exit) ≡ filled (onYes (λ f. f .payload) (parseRule (now (wire .entry)) (length (now (payload .entry))))) (now (payload .entry)) ⌝ }
-    {
-        let checked = check(wire);
-        match checked {
-            ResultHead::Err(e) => ResultRawFrame::Err(e),
-            ResultHead::Ok(head) => {
-                let len = head.len;
-                let room = payload.len();
-                if room < len {
-                    return ResultRawFrame::Err(WireError::NoRoom {
-                        need: len,
-                        got: room,
-                    });
-                }
-                let from = head.from;
-                let to = head.to;
-                copy(&wire[from..to], &mut payload[..len]);
-                let dest = head.dest;
-                let src = head.src;
-                ResultRawFrame::Ok(RawFrame {
-                    dest,
-                    src,
-                    type_id: head.type_id,
-                    len,
-                })
-            }
-        }
-    }
 }

@@ -24,19 +24,19 @@ pub fn find(a: &[u8], from: usize, b: u8) -> usize
 pub fn find_far(a: &[u8], from: usize, b: u8) -> usize
     ensures { λ r. ⌜ r ≡ firstFrom b from (now (a .entry)) ⌝ }
 {
-    if from < a.len() {
-        return find(a, skip(a, from, b), b);
-    }
-    from
+    find(a, skip(a, from, b), b)
 }
 
-// From index from on, past the blocks of 16 bytes that have no b.
+// From index from on, past the blocks of 16 bytes that have no b. The last place of a block is worked out once.
 fn skip(a: &[u8], from: usize, b: u8) -> usize
-    requires { ⌜ from ≤ length (now a) ⌝ }
     ensures { λ r. ⌜ firstFrom b from (now (a .entry)) ≡ firstFrom b r (now (a .entry)) ⌝ }
 {
+    if a.len() < 16 {
+        return from;
+    }
+    let last = a.len() - 16;
     let mut i = from;
-    while 16 <= a.len() - i {
+    while i <= last {
         if has(a, i, b) {
             return i;
         }

@@ -16,7 +16,6 @@ use error::WireError;
 use frame::RawFrame;
 use splitter::Event;
 use splitter::FrameSplitter;
-use splitter::bad;
 
 // Between two pieces: the splitter, and the number of the next event.
 pub struct Session {
@@ -44,7 +43,7 @@ impl Session {
     pub fn piece(self, hold: &mut [u8], payload: &mut [u8], chunk: &[u8], out: &mut [u8]) -> Ran
         ensures { λ r. ⌜ shown r (now (hold .exit)) (now (payload .exit)) (now (out .exit)) ≡ pieceRule (stage self (now (hold .entry)) (now (payload .entry))) (now (chunk .entry)) (now (out .entry)) ⌝ }
     {
-        if bad(self.splitter, hold.len()) {
+        if self.splitter.is_bad(hold.len()) {
             return Ran {
                 reply: ResultUsize::Err(WireError::BadState),
                 session: self,

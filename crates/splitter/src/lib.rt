@@ -55,7 +55,7 @@ impl FrameSplitter {
         ensures { λ r. ⌜ shown r (now (hold .exit)) ≡ feedRule self (now (hold .entry)) (now (chunk .entry)) ⌝ }
     {
         let room = hold.len();
-        if bad(self, room) {
+        if self.is_bad(room) {
             return Fed {
                 event: Event::Err(WireError::BadState),
                 taken: 0,
@@ -69,20 +69,20 @@ impl FrameSplitter {
         }
         stays(self, hold, chunk, from)
     }
-}
 
-// A state that no call gives, where the hold buffer has room bytes: `feed` refuses it.
-pub fn bad(s: FrameSplitter, room: usize) -> bool
-    ensures { λ r. ⌜ r ≡ isBad s room ⌝ }
-{
-    let count = s.count;
-    if room < count {
-        return true;
+    // Whether `feed` refuses this state, with a hold buffer of room bytes: no call gives it.
+    pub fn is_bad(self, room: usize) -> bool
+        ensures { λ r. ⌜ r ≡ isBad self room ⌝ }
+    {
+        let count = self.count;
+        if room < count {
+            return true;
+        }
+        if self.skipping {
+            return count != 0;
+        }
+        false
     }
-    if s.skipping {
-        return count != 0;
-    }
-    false
 }
 
 // Where the bytes of the frame that is open, or opens here, start in the chunk.

@@ -23,6 +23,20 @@ pub enum ResultU8 {
     Err(WireError),
 }
 
+// How many bytes a string unstuffs to, or its first escape that is none.
+pub fn unstuffed(s: &[u8]) -> ResultUsize
+    ensures { λ r. ⌜ toldUsize r ≡ onYes length (unstuff 0 (now (s .entry))) ⌝ }
+{
+    let n = s.len();
+    if n < 65536 {
+        let e = survey(s);
+        if e.faults == 0 {
+            return ResultUsize::Ok(n - e.count as usize);
+        }
+    }
+    count(s)
+}
+
 // The unstuffing step: the byte that the string has at a place, FD and its code being one byte.
 fn step(s: &[u8], i: usize) -> ResultU8
     requires { ⌜ i < length (now s) ⌝ }
@@ -104,18 +118,4 @@ fn survey(s: &[u8]) -> Escapes
         count: std::num::wrapping_add_u16(count, wide(select(p, ESC, 1, 0))),
         faults: faults | fault(p, 0),
     }
-}
-
-// How many bytes a string unstuffs to, or its first escape that is none.
-pub fn unstuffed(s: &[u8]) -> ResultUsize
-    ensures { λ r. ⌜ toldUsize r ≡ onYes length (unstuff 0 (now (s .entry))) ⌝ }
-{
-    let n = s.len();
-    if n < 65536 {
-        let e = survey(s);
-        if e.faults == 0 {
-            return ResultUsize::Ok(n - e.count as usize);
-        }
-    }
-    count(s)
 }

@@ -10,19 +10,19 @@ use borrow.Author.Needs.{needs}
 use Rattle.session.proofs.Session.piece.Statement.{statement}
 use Rattle.session.proofs.Session.piece.Tie as tie
 
-abbrev given : tie.After-bad → tie.Start
+abbrev given : tie.After-is-bad → tie.Start
 given c = c .before .before .before .before .before
 
 good : (c : tie.Else1) → isBad (given (c .before) .args .self .splitter) (length (given (c .before) .args .hold .now)) ≡ false
-good c = sym (c .before .bad .ensures) ∙ c .if1 .left
+good c = sym (c .before .is-bad .ensures) ∙ c .if1 .left
 
-bad-requires : tie.Need-bad-requires
-bad-requires c κs = search needs
+is-bad-requires : tie.Need-is-bad-requires
+is-bad-requires c κs = search needs
 
 returns : tie.Need-returns
 returns c =
     let a = given (c .before) .args in
-    piece-bad (stage (a .self) (a .hold .now) (a .payload .now)) (a .chunk .now) (a .out .now) (sym (c .before .bad .ensures) ∙ c .if1 .taken)
+    piece-bad (stage (a .self) (a .hold .now) (a .payload .now)) (a .chunk .now) (a .out .now) (sym (c .before .is-bad .ensures) ∙ c .if1 .taken)
 
 room-for-requires : tie.Need-room-for-requires
 room-for-requires c κs = search needs
@@ -64,7 +64,7 @@ pub piece-spec : {M : Type 1} → statement M
 piece-spec =
     tie.close
     (tie.spec
-    bad-requires
+    is-bad-requires
     returns
     room-for-requires
     returns-2

@@ -7,11 +7,11 @@ use borrow.Author.Needs.{needs}
 use Rattle.splitter.proofs.FrameSplitter.feed.Statement.{statement}
 use Rattle.splitter.proofs.FrameSplitter.feed.Tie as tie
 
-bad-requires : tie.Need-bad-requires
-bad-requires c κs = search needs
+is-bad-requires : tie.Need-is-bad-requires
+is-bad-requires c κs = search needs
 
 returns : tie.Need-returns
-returns c = sym (feed-bad _ _ _ (sym (c .before .bad .ensures) ∙ c .if1 .taken))
+returns c = sym (feed-bad _ _ _ (sym (c .before .is-bad .ensures) ∙ c .if1 .taken))
 
 start-requires : tie.Need-start-requires
 start-requires c κs = search needs
@@ -25,7 +25,7 @@ add-closes c = search needs
 closes-requires : tie.Need-closes-requires
 closes-requires c κs =
     let e = c .before .before .before .before in
-    let b = not-bad (e .before .before .before .before .args .self) _ (sym (e .before .bad .ensures) ∙ e .if1 .left) in
+    let b = not-bad (e .before .before .before .before .args .self) _ (sym (e .before .is-bad .ensures) ∙ e .if1 .left) in
     (b, omega arith)
 
 same-length : tie.Need-same-length
@@ -38,12 +38,12 @@ returns-2 c =
     let a = e .before .before .before .before .args in
     c .before .before .closes .ensures
     ∙ feed-ends (a .self) (a .hold .now) (a .chunk .now) (t .before .before .start .result) (t .before .find-far .result)
-    (sym (e .before .bad .ensures) ∙ e .if1 .left) (t .before .before .start .ensures .0) (t .before .find-far .ensures) (t .if2 .taken)
+    (sym (e .before .is-bad .ensures) ∙ e .if1 .left) (t .before .before .start .ensures .0) (t .before .find-far .ensures) (t .if2 .taken)
 
 stays-requires : tie.Need-stays-requires
 stays-requires c κs =
     let e = c .before .before .before .before in
-    let b = not-bad (e .before .before .before .before .args .self) _ (sym (e .before .bad .ensures) ∙ e .if1 .left) in
+    let b = not-bad (e .before .before .before .before .args .self) _ (sym (e .before .is-bad .ensures) ∙ e .if1 .left) in
     (b, omega arith)
 
 same-length-2 : tie.Need-same-length-2
@@ -56,13 +56,13 @@ returns-3 c =
     let a = e .before .before .before .before .args in
     c .before .before .stays .ensures
     ∙ feed-goes-on (a .self) (a .hold .now) (a .chunk .now) (t .before .before .start .result) (t .before .find-far .result)
-    (sym (e .before .bad .ensures) ∙ e .if1 .left) (t .before .before .start .ensures .0) (t .before .find-far .ensures) (t .if2 .left)
+    (sym (e .before .is-bad .ensures) ∙ e .if1 .left) (t .before .before .start .ensures .0) (t .before .find-far .ensures) (t .if2 .left)
 
 pub feed-spec : {M : Type 1} → statement M
 feed-spec =
     tie.close
     (tie.spec
-    bad-requires
+    is-bad-requires
     returns
     start-requires
     find-far-requires
