@@ -1,5 +1,5 @@
-// Runs document 01's 'Run' cases on the splitter through the program's own lines: its example cut in two, a frame as long
-// as the hold buffer and one longer, hold buffers of 1 and 0 bytes, each at once and cut. `frames` runs the example whole.
+// Runs document 01's 'Run' cases on the splitter through the program's own lines: its example, a frame as long as the hold
+// buffer and one longer, hold buffers of 1 and 0 bytes, each at once and then cut in two.
 use session::Session;
 
 // The example and an F0 behind it, which stays open: held where H is 1 or more, else the mark is set.
@@ -19,7 +19,7 @@ fn main() {
     ];
     let stream = &bytes[..];
     let mut large = [0u8; 2048];
-    show(&mut large, &stream[0..3], &stream[3..10]);
+    both(&mut large, &stream[0..10]);
     let mut seven = [0u8; 7];
     both(&mut seven, stream);
     let mut six = [0u8; 6];
