@@ -7,7 +7,7 @@ use native.Mathlib.Omega.{arith}
 use native.Mathlib.Numerals.{add-one}
 use lib.ListN.{length, getD, set, take, length-take}
 use lib.Seq.{sets, take-suc}
-use Rattle.error.proofs.Stores.{sets-append}
+use Rattle.general.proofs.Stores.{sets-append}
 
 module _ {A : Type 0} where
   pub step : (xs l : List A) (at i : ℕ) (d : A) → i < length xs

@@ -4,11 +4,11 @@ use Prim.Native.Nat.{ℕ}
 use mathlib.Core.Bool.{not}
 use mathlib.Core.List.{List, [], _∷_}
 use lib.Dec.{eqb}
-use Rattle.error.specs.Refusal.{Told, onYes}
+use Rattle.error.specs.Refusal.{Told, onYes, andThen}
 use Rattle.addr.specs.Address.{byteOf, addressRule}
 use Rattle.frame.specs.declared.RawFrame.{RawFrame}
 use Rattle.frame.specs.Wire.{fields}
-use Rattle.frame.specs.Rule.{then, encodeRule}
+use Rattle.frame.specs.Rule.{encodeRule}
 use Rattle.splitter.specs.declared.FrameSplitter.{FrameSplitter}
 use Rattle.splitter.specs.Feed.{Answer, more, overlong, frame, Given}
 use Rattle.abi.specs.Answer.{flagOf}
@@ -17,10 +17,10 @@ use Rattle.abi.specs.Answer.{flagOf}
 abbrev pub wordsOf : RawFrame → List ℕ
 wordsOf f = byteOf (f .dest) ∷ byteOf (f .src) ∷ f .«type_id» ∷ f .len ∷ []
 
--- the wire of a frame; DEST is tested, then SRC (6)
+-- the wire of a frame; DEST is tested, andThen SRC (6)
 abbrev pub encodedOf : ℕ → ℕ → ℕ → List ℕ → ℕ → Told (List ℕ)
 encodedOf dest src type payload room =
-    then (addressRule dest) (λ d. then (addressRule src) (λ s. encodeRule (fields d s type payload) room))
+    andThen (addressRule dest) (λ d. andThen (addressRule src) (λ s. encodeRule (fields d s type payload) room))
 
 abbrev pub stateOf : ℕ → ℕ → FrameSplitter
 stateOf count mark = record { count = count; skipping = not (eqb mark 0) }

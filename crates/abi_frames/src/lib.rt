@@ -2,8 +2,8 @@
 // What a call tells, and every lent place, is the rule of the function of that name; a refusal alters none of them but `values`.
 ghost use mathlib.Core.Path.{_≡_};
 ghost use lib.ListN.{length};
-ghost use Rattle.error.specs.Refusal.{onYes};
-ghost use Rattle.frame.specs.Rule.{filled, parseRule, headerOf};
+ghost use Rattle.error.specs.Refusal.{onYes, filled};
+ghost use Rattle.frame.specs.Rule.{parseRule, headerOf};
 ghost use Rattle.splitter.specs.Feed.{feedRule};
 ghost use Rattle.abi.specs.Answer.{flagOf, Passed};
 ghost use Rattle.abi_frames.specs.Frames.{wordsOf, encodedOf, stateOf, leftBy};

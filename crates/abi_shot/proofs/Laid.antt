@@ -7,8 +7,8 @@ use native.Mathlib.Omega.{arith}
 use native.Mathlib.Numerals.{add-one}
 use lib.ListN.{length, getD, set, take, length-set, length-take}
 use lib.Seq.{sets, take-all, take-suc, set-out}
-use Rattle.error.proofs.Cases.{by-lt}
-use Rattle.error.proofs.Stores.{sets-append}
+use Rattle.general.proofs.Cases.{by-lt}
+use Rattle.general.proofs.Stores.{sets-append}
 
 module _ {A : Type 0} where
   pub step : (xs l : List A) (i : ℕ) (d : A) → i < length xs → set (sets l 0 (take i xs)) i (getD xs i d) ≡ sets l 0 (take (i + 1) xs)

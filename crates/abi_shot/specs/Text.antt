@@ -5,7 +5,7 @@ use mathlib.Core.Path.{_≡_}
 use mathlib.Core.Bool.{Bool}
 use mathlib.Core.List.{List}
 use lib.Seq.{sets}
-use Rattle.text.specs.Search.{Says}
+use Rattle.shot_text.specs.Search.{Says}
 use Rattle.abi.specs.Answer.{flagOf}
 
 -- a store past the end stores nothing

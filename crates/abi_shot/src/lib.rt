@@ -9,8 +9,8 @@ ghost use Rattle.points.specs.Point.{pointAnswer, pointSource};
 ghost use Rattle.prc.specs.Points.{prcPoints, prcTold, prcData, prcPointOf};
 ghost use Rattle.club_prc.specs.Points.{clubPoints, clubPointOf};
 ghost use Rattle.club_prc.specs.Request.{requestOf};
-ghost use Rattle.text.specs.Trim.{textOf};
-ghost use Rattle.text.specs.Search.{Stands, bytes};
+ghost use Rattle.shot_text.specs.Trim.{textOf};
+ghost use Rattle.shot_text.specs.Search.{Stands, bytes};
 ghost use Rattle.abi.specs.Answer.{Passed};
 ghost use Rattle.abi_shot.specs.Numbers.{dataNumbers, prcWhole, prcFigures, prcNumbers, clubWhole, clubFigures, clubNumbers};
 ghost use Rattle.abi_shot.specs.Text.{laid, Flags};
@@ -25,7 +25,7 @@ use error::ResultUnit;
 use prc::PrcData;
 use prc::PrcPoint;
 use prc::ResultPrcData;
-use text::ShotText;
+use shot_text::ShotText;
 
 // ---- EC, the ball's points
 

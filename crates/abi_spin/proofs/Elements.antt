@@ -11,7 +11,7 @@ use lib.ListN.{length, getD, set, take, length-take, length-append}
 use lib.Seq.{sets, take-suc, set-comm}
 use Rattle.spin.specs.declared.AntennaElement.{AntennaElement}
 use Rattle.abi_spin.specs.Numbers.{elementsWhole, peaks}
-use Rattle.error.proofs.Stores.{sets-append}
+use Rattle.general.proofs.Stores.{sets-append}
 use Rattle.abi_spin.proofs.Filled.{filled}
 
 append : (es fs : List AntennaElement) → elementsWhole (es ++ fs) ≡ elementsWhole es ++ elementsWhole fs

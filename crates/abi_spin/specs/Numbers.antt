@@ -4,7 +4,7 @@ use Prim.Native.Nat.{ℕ}
 use mathlib.Core.List.{List, [], _∷_, _++_}
 use lib.IntN.{ℤ, pos}
 use lib.Ieee.{Float}
-use Rattle.speed.specs.declared.SpeedProfile.{SpeedProfile}
+use Rattle.speed_profile.specs.declared.SpeedProfile.{SpeedProfile}
 use Rattle.spin.specs.declared.AntennaElement.{AntennaElement}
 use Rattle.spin.specs.declared.SpinResult.{SpinResult}
 use Rattle.tracking.specs.declared.TrackingStatus.{TrackingStatus}

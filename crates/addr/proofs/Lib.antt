@@ -1,2 +1,3 @@
 -- The addresses' laws.
 pub mod Back
+pub mod One

@@ -5,12 +5,12 @@ use mathlib.Core.List.{List, [], _∷_}
 use Prim.Native.Nat.{ℕ, _-_, _≤_, _<_}
 use lib.ListN.{length, getD}
 use borrow.Author.Tests.{eq-eqb, ne-eqb, lt-ltb, le-ltb}
-use Rattle.error.specs.Refusal.{yes, no}
+use Rattle.error.specs.Refusal.{yes, no, andThen}
 use Rattle.addr.specs.declared.BusAddr.{BusAddr}
 use Rattle.addr.specs.Address.{addressRule}
 use Rattle.unstuffing.specs.Unstuff.{unstuff, byteAt}
 use Rattle.encoding.specs.Wire.{fields}
-use Rattle.checking.specs.Rule.{then, interior, receivedOf, computedOf, payloadOf, addressesRule, sumRule, unitsRule, checkRule}
+use Rattle.checking.specs.Rule.{interior, receivedOf, computedOf, payloadOf, addressesRule, sumRule, unitsRule, checkRule}
 
 module _ (us : List (ℕ × ℕ)) where
   pub bad-dest : (k : ℕ) (vs : List ℕ) → addressRule (byteAt us 0) ≡ no k vs → addressesRule us ≡ no k vs
@@ -57,6 +57,6 @@ module _ (w : List ℕ) where
   bad-end h g k = rw (le-ltb _ _ h, eq-eqb _ _ g, ne-eqb _ _ k) refl
 
   pub framed : 7 ≤ length w → getD w 0 0 ≡ 0xF0 → getD w (length w - 1) 0 ≡ 0xF1
-      → checkRule w ≡ then (unstuff 0 (interior w)) (unitsRule (length w) (interior w))
+      → checkRule w ≡ andThen (unstuff 0 (interior w)) (unitsRule (length w) (interior w))
   unfolding checkRule
   framed h g k = rw (le-ltb _ _ h, eq-eqb _ _ g, eq-eqb _ _ k) refl

@@ -8,12 +8,12 @@ use native.Mathlib.Omega.{arith}
 use lib.Dec.{eqb, ltb}
 use lib.ListN.{length, getD}
 use borrow.Author.Tests.{ltb-false, eqb-true}
-use Rattle.error.specs.Refusal.{Told, yes, no}
+use Rattle.error.specs.Refusal.{Told, yes, no, andThen}
 use Rattle.addr.specs.declared.BusAddr.{BusAddr}
 use Rattle.addr.specs.Address.{addressRule}
 use Rattle.unstuffing.specs.Unstuff.{unstuff, byteAt}
 use Rattle.encoding.specs.Wire.{Fields, fields}
-use Rattle.checking.specs.Rule.{then, interior, receivedOf, computedOf, payloadOf, addressesRule, sumRule, unitsRule, checkRule}
+use Rattle.checking.specs.Rule.{interior, receivedOf, computedOf, payloadOf, addressesRule, sumRule, unitsRule, checkRule}
 use Rattle.checking.proofs.Cases.{framed, many, matching, both-known}
 
 pub record Checked (w : List ℕ) (f : Fields) : Type 0 where
@@ -31,7 +31,7 @@ pub record Checked (w : List ℕ) (f : Fields) : Type 0 where
 pub taken : {w : List ℕ} {f : Fields} → Checked w f → checkRule w ≡ yes f
 taken {w} {f} c =
     framed w (c .long) (c .first) (c .last)
-    ∙ ap (λ (t : Told (List (ℕ × ℕ))). then t (unitsRule (length w) (interior w))) (c .escapes)
+    ∙ ap (λ (t : Told (List (ℕ × ℕ))). andThen t (unitsRule (length w) (interior w))) (c .escapes)
     ∙ many (c .us) (interior w) (length w) (c .five)
     ∙ matching (c .us) (interior w) (c .sum)
     ∙ both-known (c .us) (f .dest) (f .src) (c .dest) (c .src)
@@ -52,7 +52,7 @@ pub record Got {A B : Type 0} (t : Told A) (rule : A → Told B) (b : B) : Type 
   pub is : t ≡ yes value
   pub then : rule value ≡ yes b
 
-pub got : {A B : Type 0} (t : Told A) (rule : A → Told B) (b : B) → then t rule ≡ yes b → Got t rule b
+pub got : {A B : Type 0} (t : Told A) (rule : A → Told B) (b : B) → andThen t rule ≡ yes b → Got t rule b
 got (yes a) rule b e = record { value = a; is = refl; then = e }
 got (no k vs) rule b e = let z : _≡_ {A = ℕ} 0 1 = cc in absurd (let q : ⊥ = omega arith in q)
 

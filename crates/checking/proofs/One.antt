@@ -2,7 +2,8 @@
 -- Assumes nothing.
 use mathlib.Core.Path.{_≡_, refl, ap}
 use Rattle.error.specs.Refusal.{Told}
-use Rattle.error.proofs.Decides.{one-reply, turned, there}
+use Rattle.error.proofs.Decides.{turned, there}
+use Rattle.general.proofs.One.{one-reply}
 use Rattle.checking.specs.declared.Head.{Head}
 use Rattle.checking.specs.declared.ResultHead.{ResultHead}
 use Rattle.checking.specs.declared.ResultHead.the-variants.{Ok, Err}

@@ -9,7 +9,7 @@ use native.Mathlib.Omega.{arith}
 use lib.ListN.{length, take, drop, getD, length-append, length-drop, length-map, take-append-drop, List·getD-append}
 use lib.Seq.{drop-cons, drop-append-le, take-take, length-take-le, getD-append-add, take-at}
 use borrow.Author.Tests.{eq-eqb}
-use Rattle.error.specs.Refusal.{Told, yes, no, onYes}
+use Rattle.error.specs.Refusal.{Told, yes, no, onYes, andThen}
 use Rattle.addr.specs.declared.BusAddr.{BusAddr}
 use Rattle.addr.specs.Address.{addressRule}
 use Rattle.stuffing.specs.Stuff.{unescapeOf, sum16}
@@ -18,7 +18,7 @@ use Rattle.unstuffing.specs.Proper.{Proper, none, byte, escape, kept, widthOf, 
 use Rattle.unstuffing.proofs.Proper.{units, unstuff-proper, isYes, proper-of, length-units, kept-most}
 use Rattle.unstuffing.proofs.Parting.{proper-append, kept-append, kept-none, unstuff-join, value-plain, FrontAt, front-at, cutOf, Back, back}
 use Rattle.encoding.specs.Wire.{Fields, fields}
-use Rattle.checking.specs.Rule.{then, receivedOf, computedOf, payloadOf, addressesRule, head, headAt, unitsOf}
+use Rattle.checking.specs.Rule.{receivedOf, computedOf, payloadOf, addressesRule, head, headAt, unitsOf}
 use Rattle.checking.specs.Walk.{Ends, frontRule}
 
 -- ---- a byte
@@ -119,18 +119,18 @@ module _ (s : List ℕ) (p : Proper s) (three : 3 ≤ kept s) where
       -- what the three of them tell, and the place behind them
       pub head-told : (len t from : ℕ) (dest src : Told BusAddr)
           → dest ≡ addressRule (valueOf s) → src ≡ addressRule (valueOf (drop a s)) → t ≡ valueOf (drop b s) → from ≡ b + widthOf (getD s b 0)
-          → then dest (λ d. then src (λ r. yes (head d r t len (from + 1) (length s + 1)))) ≡ then (unstuff 0 s) (frontRule len (length s))
+          → andThen dest (λ d. andThen src (λ r. yes (head d r t len (from + 1) (length s + 1)))) ≡ andThen (unstuff 0 s) (frontRule len (length s))
       unfolding frontRule
       head-told len t from dest src de se te fe =
           let n = b + widthOf (getD s b 0) in
           let past = past-type n refl in
           let behind : n + length (drop n s) ≡ length s = omega (arith, past .inside, length-drop n s) in
           let o : from ≡ offsetAt (units n (past .proper) ++ (0, length s) ∷ []) 0 = fe ∙ sym (first-offset n (length s) (past .proper) behind) in
-          let same : then dest (λ d. then src (λ r. yes (head d r t len (from + 1) (length s + 1))))
-          ≡ then (addressRule (valueOf s)) (λ d. then (addressRule (valueOf (drop a s)))
+          let same : andThen dest (λ d. andThen src (λ r. yes (head d r t len (from + 1) (length s + 1))))
+          ≡ andThen (addressRule (valueOf s)) (λ d. andThen (addressRule (valueOf (drop a s)))
           (λ r. yes (head d r (valueOf (drop b s)) len (offsetAt (units n (past .proper) ++ (0, length s) ∷ []) 0 + 1) (length s + 1))))
-          = λ i. then (de i) (λ d. then (se i) (λ r. yes (head d r (te i) len (o i + 1) (length s + 1)))) in
-          same ∙ ap (λ (x : Told (List (ℕ × ℕ))). then x (frontRule len (length s))) (sym (head-units n refl))
+          = λ i. andThen (de i) (λ d. andThen (se i) (λ r. yes (head d r (te i) len (o i + 1) (length s + 1)))) in
+          same ∙ ap (λ (x : Told (List (ℕ × ℕ))). andThen x (frontRule len (length s))) (sym (head-units n refl))
 
 -- ---- the two rules of the checksum and the head, by what precedes the checksum
 
@@ -140,8 +140,8 @@ bytes-append (u ∷ a) b = ap (λ (l : List ℕ). u .0 ∷ l) (bytes-append a b)
 
 -- what a rule answers, with the places and lengths that it is told
 head-of : (us : List (ℕ × ℕ)) (d s : Told BusAddr) (type n from to : ℕ) (p : List ℕ) → length p ≡ n → offsetAt us 3 ≡ from → offsetAt us (length us - 2) ≡ to
-    → onYes (headAt us) (then d (λ dest. then s (λ src. yes (fields dest src type p))))
-    ≡ then d (λ dest. then s (λ src. yes (head dest src type n (from + 1) (to + 1))))
+    → onYes (headAt us) (andThen d (λ dest. andThen s (λ src. yes (fields dest src type p))))
+    ≡ andThen d (λ dest. andThen s (λ src. yes (head dest src type n (from + 1) (to + 1))))
 head-of us (yes d) (yes s) type n from to p e f g = λ i. yes (head d s type (e i) (f i + 1) (g i + 1))
 head-of us (yes d) (no k vs) type n from to p e f g = refl
 head-of us (no k vs) s type n from to p e f g = refl
@@ -196,8 +196,8 @@ module _ (ub : List (ℕ × ℕ)) (hi at lo o : ℕ) (three : 3 ≤ length ub) w
       let from : offsetAt us 3 ≡ offsetAt (ub ++ (0, at) ∷ []) 3 = next-offset (hi, at) (0, at) ((lo, o) ∷ []) [] ub 3 three refl in
       let to : offsetAt us (length us - 2) ≡ at = ap (λ (u : ℕ × ℕ). u .1) (at-end (length us - 2) 0 (omega (arith, length-us))) in
       let same : onYes (headAt us) (addressesRule us)
-      ≡ onYes (headAt us) (then (addressRule (byteAt ub 0)) (λ dest. then (addressRule (byteAt ub 1)) (λ src. yes (fields dest src (byteAt ub 2) (payloadOf us)))))
-      = λ i. onYes (headAt us) (then (addressRule (d i .0)) (λ dest. then (addressRule (s i .0)) (λ src. yes (fields dest src (y i .0) (payloadOf us))))) in
+      ≡ onYes (headAt us) (andThen (addressRule (byteAt ub 0)) (λ dest. andThen (addressRule (byteAt ub 1)) (λ src. yes (fields dest src (byteAt ub 2) (payloadOf us)))))
+      = λ i. onYes (headAt us) (andThen (addressRule (d i .0)) (λ dest. andThen (addressRule (s i .0)) (λ src. yes (fields dest src (y i .0) (payloadOf us))))) in
       same ∙ head-of us (addressRule (byteAt ub 0)) (addressRule (byteAt ub 1)) (byteAt ub 2) n (offsetAt (ub ++ (0, at) ∷ []) 3) at (payloadOf us) p from to
 
 -- ---- an interior with its checksum found
@@ -273,6 +273,6 @@ counted-yes s n e =
 
 -- what is told of an interior's units, told of the interior
 pub head-through : (t : Told (List (ℕ × ℕ))) (rule : List (ℕ × ℕ) → Told Fields)
-    → onYes (headAt (unitsOf t)) (then t rule) ≡ then t (λ us. onYes (headAt us) (rule us))
+    → onYes (headAt (unitsOf t)) (andThen t rule) ≡ andThen t (λ us. onYes (headAt us) (rule us))
 head-through (yes us) rule = refl
 head-through (no k vs) rule = refl

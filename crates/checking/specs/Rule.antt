@@ -5,7 +5,7 @@ use mathlib.Core.Bool.{cond, not}
 use mathlib.Core.List.{List, [], _∷_}
 use lib.Dec.{eqb, ltb}
 use lib.ListN.{length, getD, take, drop}
-use Rattle.error.specs.Refusal.{Told, yes, no, refused}
+use Rattle.error.specs.Refusal.{Told, yes, no, refused, andThen}
 use Rattle.addr.specs.declared.BusAddr.{BusAddr}
 use Rattle.addr.specs.Address.{addressRule}
 use Rattle.stuffing.specs.Stuff.{sum16}
@@ -14,11 +14,6 @@ use Rattle.encoding.specs.Wire.{Fields, fields}
 use Rattle.checking.specs.declared.Head.{Head}
 use Rattle.checking.specs.declared.ResultHead.{ResultHead}
 use Rattle.checking.specs.declared.ResultHead.the-variants.{Ok, Err}
-
--- a test that comes after another
-abbrev pub then : {A B : Type 0} → Told A → (A → Told B) → Told B
-then (yes a) rule = rule a
-then (no k vs) rule = no k vs
 
 -- what stands between the first and the last byte
 abbrev pub interior : List ℕ → List ℕ
@@ -37,7 +32,7 @@ payloadOf us = take (length us - 5) (drop 3 (bytesOf us))
 -- DEST, then SRC (6)
 unfoldable pub addressesRule : List (ℕ × ℕ) → Told Fields
 addressesRule us =
-    then (addressRule (byteAt us 0)) (λ dest. then (addressRule (byteAt us 1)) (λ src. yes (fields dest src (byteAt us 2) (payloadOf us))))
+    andThen (addressRule (byteAt us 0)) (λ dest. andThen (addressRule (byteAt us 1)) (λ src. yes (fields dest src (byteAt us 2) (payloadOf us))))
 
 -- checksum (5)
 unfoldable pub sumRule : List ℕ → List (ℕ × ℕ) → Told Fields
@@ -54,7 +49,7 @@ checkRule wire =
     cond (ltb (length wire) 7) (no 1 (length wire ∷ []))
     (cond (not (eqb (getD wire 0 0) 0xF0)) (no 2 (getD wire 0 0 ∷ []))
     (cond (not (eqb (getD wire (length wire - 1) 0) 0xF1)) (no 3 [])
-    (then (unstuff 0 (interior wire)) (unitsRule (length wire) (interior wire)))))
+    (andThen (unstuff 0 (interior wire)) (unitsRule (length wire) (interior wire)))))
 
 -- ---- a wire as it is answered
 

@@ -4,12 +4,12 @@ use Prim.Native.Nat.{ℕ, _+_, _≤_}
 use mathlib.Core.Path.{_≡_}
 use mathlib.Core.List.{List, [], _∷_, _++_}
 use lib.ListN.{length, take, drop}
-use Rattle.error.specs.Refusal.{Told, yes}
+use Rattle.error.specs.Refusal.{Told, yes, andThen}
 use Rattle.addr.specs.Address.{addressRule}
 use Rattle.unstuffing.specs.Unstuff.{byteAt, offsetAt}
 use Rattle.unstuffing.specs.Proper.{Proper, kept}
 use Rattle.checking.specs.declared.Head.{Head}
-use Rattle.checking.specs.Rule.{then, head}
+use Rattle.checking.specs.Rule.{head}
 
 -- an interior whose checksum, two unstuffed bytes, starts at a place
 pub record Ends (s : List ℕ) (at : ℕ) : Type 0 where
@@ -18,8 +18,8 @@ pub record Ends (s : List ℕ) (at : ℕ) : Type 0 where
   pub sum : Proper (drop at s)
   pub two : kept (drop at s) ≡ 2
 
--- DEST, then SRC: of what precedes the checksum, which starts at a place, with the payload's length
+-- DEST, andThen SRC: of what precedes the checksum, which starts at a place, with the payload's length
 unfoldable pub frontRule : ℕ → ℕ → List (ℕ × ℕ) → Told Head
 frontRule len at us =
-    then (addressRule (byteAt us 0))
-    (λ dest. then (addressRule (byteAt us 1)) (λ src. yes (head dest src (byteAt us 2) len (offsetAt (us ++ (0, at) ∷ []) 3 + 1) (at + 1))))
+    andThen (addressRule (byteAt us 0))
+    (λ dest. andThen (addressRule (byteAt us 1)) (λ src. yes (head dest src (byteAt us 2) len (offsetAt (us ++ (0, at) ∷ []) 3 + 1) (at + 1))))

@@ -3,25 +3,22 @@
 ghost use mathlib.Core.Path.{_≡_};
 ghost use Prim.Native.Nat.{_+_, _-_, _*_, _<_, _≤_};
 ghost use lib.ListN.{length, drop, getD};
-ghost use Rattle.error.specs.Refusal.{onYes};
+ghost use Rattle.error.specs.Refusal.{onYes, andThen};
 ghost use Rattle.unstuffing.specs.Unstuff.{unstuff};
 ghost use Rattle.unstuffing.specs.Proper.{Proper, kept, widthOf, valueOf};
-ghost use Rattle.checking.specs.Rule.{then, sumRule, unitsRule, checkRule, headAt, headOf, toldHead};
+ghost use Rattle.checking.specs.Rule.{sumRule, unitsRule, checkRule, headAt, headOf, toldHead};
 ghost use Rattle.checking.specs.Walk.{Ends, frontRule};
 use addr::BusAddr;
 use addr::ResultBusAddr;
 use error::ResultUsize;
 use error::WireError;
+use marks::END;
+use marks::ESC;
+use marks::START;
 use stuffing::checksum;
 use stuffing::select;
 use stuffing::unescape;
 use unstuffing::unstuffed;
-
-const START: u8 = 0xF0;
-
-const END: u8 = 0xF1;
-
-const ESC: u8 = 0xFD;
 
 // A wire's header, its payload's length, and the two places of the wire between which the payload's stuffed bytes stand.
 pub struct Head {
@@ -110,7 +107,7 @@ fn received(s: &[u8], at: usize) -> u16
 // What precedes the checksum: in the wire it starts at 1.
 fn check_head(body: &[u8], len: usize) -> ResultHead
     requires { ⌜ (Proper (now body)) × (3 ≤ kept (now body)) ⌝ }
-    ensures { λ r. ⌜ toldHead r ≡ then (unstuff 0 (now (body .entry))) (frontRule len (length (now (body .entry)))) ⌝ }
+    ensures { λ r. ⌜ toldHead r ≡ andThen (unstuff 0 (now (body .entry))) (frontRule len (length (now (body .entry)))) ⌝ }
 {
     let src_at = next(body, 0);
     let type_at = next(body, src_at);
@@ -136,7 +133,7 @@ fn check_head(body: &[u8], len: usize) -> ResultHead
 
 fn check_sum(s: &[u8], n: usize) -> ResultHead
     requires { ⌜ (Proper (now s)) × (n ≡ kept (now s)) × (5 ≤ n) ⌝ }
-    ensures { λ r. ⌜ toldHead r ≡ then (unstuff 0 (now (s .entry))) (λ us. onYes (headAt us) (sumRule (now (s .entry)) us)) ⌝ }
+    ensures { λ r. ⌜ toldHead r ≡ andThen (unstuff 0 (now (s .entry))) (λ us. onYes (headAt us) (sumRule (now (s .entry)) us)) ⌝ }
 {
     let at = cs_at(s);
     let expected = received(s, at);
@@ -148,7 +145,7 @@ fn check_sum(s: &[u8], n: usize) -> ResultHead
 }
 
 fn check_interior(s: &[u8], whole: usize) -> ResultHead
-    ensures { λ r. ⌜ toldHead r ≡ then (unstuff 0 (now (s .entry))) (λ us. onYes (headAt us) (unitsRule whole (now (s .entry)) us)) ⌝ }
+    ensures { λ r. ⌜ toldHead r ≡ andThen (unstuff 0 (now (s .entry))) (λ us. onYes (headAt us) (unitsRule whole (now (s .entry)) us)) ⌝ }
 {
     let counted = unstuffed(s);
     match counted {

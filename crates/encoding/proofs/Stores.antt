@@ -11,7 +11,7 @@ use lib.Dec.{eqb, leb}
 use lib.ListN.{length, drop, set}
 use lib.Seq.{sets, sets-eq, set-set}
 use borrow.Author.Tests.{eq-eqb, ne-eqb, le-leb}
-use Rattle.error.proofs.Cases.{by-eq}
+use Rattle.general.proofs.Cases.{by-eq}
 use Rattle.stuffing.specs.Stuff.{escapeOf, stuffByte, stuff}
 use Rattle.stuffing.proofs.Codes.{plain, escaped}
 

@@ -11,7 +11,7 @@ use Rattle.stuffing.specs.Stuff.{stuff, sum16}
 use Rattle.stuffing.proofs.Stuffing.{stuff-append, stuff-least, stuff-most}
 use Rattle.stuffing.proofs.Sums.{sum-append}
 use Rattle.encoding.specs.Wire.{Fields, bodyOf, csOf, wireOf}
-use Rattle.error.proofs.Stores.{sets-append}
+use Rattle.general.proofs.Stores.{sets-append}
 
 -- what a tally counts of a string of at most 65,535 bytes
 pub tallied : (s : List ℕ) {more : ℕ} → more ≡ (length (stuff s) - length s) % 65536 → length s ≤ 65535 → more + length s ≡ length (stuff s)

@@ -2,9 +2,9 @@
 -- A refusal is its number and values; a refused call writes nothing (`filled`).
 use Prim.Native.Nat.{ℕ}
 use mathlib.Core.Bool.{cond}
-use mathlib.Core.List.{List, [], _∷_, _++_}
+use mathlib.Core.List.{List, [], _∷_}
 use lib.Dec.{ltb}
-use lib.ListN.{length, drop}
+use lib.ListN.{length}
 use Rattle.error.specs.Refusal.{Told, yes, no}
 use Rattle.encoding.specs.Wire.{Fields, wireOf}
 
@@ -14,8 +14,3 @@ encodeRule f room =
     cond (ltb 65535 (length (f .payload))) (no 10 (length (f .payload) ∷ []))
     (cond (ltb room (length (wireOf f))) (no 8 (length (wireOf f) ∷ room ∷ []))
     (yes (wireOf f)))
-
--- what was answered fills the buffer's front and the rest keeps its bytes; a refusal writes nothing
-abbrev pub filled : Told (List ℕ) → List ℕ → List ℕ
-filled (yes w) old = w ++ drop (length w) old
-filled (no k vs) old = old

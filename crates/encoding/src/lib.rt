@@ -4,25 +4,22 @@ ghost use mathlib.Core.Path.{_≡_};
 ghost use Prim.Native.Nat.{_+_, _≤_};
 ghost use lib.ListN.{length};
 ghost use lib.Seq.{sets};
-ghost use Rattle.error.specs.Refusal.{onYes};
+ghost use Rattle.error.specs.Refusal.{onYes, filled};
 ghost use Rattle.error.specs.Result.{toldUsize};
 ghost use Rattle.stuffing.specs.Stuff.{escapeOf, stuffByte, stuff};
 ghost use Rattle.encoding.specs.Wire.{fields, csOf, wireOf};
-ghost use Rattle.encoding.specs.Encode.{filled, encodeRule};
+ghost use Rattle.encoding.specs.Encode.{encodeRule};
 use addr::BusAddr;
 use blocks::block;
 use blocks::put_block;
 use error::ResultUsize;
 use error::WireError;
+use marks::END;
+use marks::ESC;
+use marks::START;
 use stuffing::escape_code;
 use stuffing::select;
 use stuffing::tally;
-
-const START: u8 = 0xF0;
-
-const END: u8 = 0xF1;
-
-const ESC: u8 = 0xFD;
 
 // ---- which bytes have a code, without a branch on them
 

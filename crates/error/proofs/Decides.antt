@@ -8,6 +8,7 @@ use lib.Dec.{eqb}
 use lib.ListN.{getD}
 use lib.IntN.{ℤ}
 use lib.Ieee.{Float}
+use Rattle.general.proofs.One.{one-reply}
 use Rattle.error.specs.declared.WireError.{WireError}
 use Rattle.error.specs.declared.WireError.the-variants.{FrameTooShort, MissingStart, MissingEnd, InvalidEscape, ChecksumMismatch, UnknownBusAddr, PayloadTooShort, NoRoom, BadState, PayloadTooLong, NoField}
 use Rattle.error.specs.Refusal.{Told, yes, no, numberOf, valuesOf, refused}
@@ -26,10 +27,6 @@ use Rattle.error.specs.declared.ResultUsize.the-variants as usize
 use Rattle.error.specs.declared.ResultF64.{ResultF64}
 use Rattle.error.specs.declared.ResultF64.the-variants as f64
 use Rattle.error.specs.Result.{toldUnit, toldI16, toldU16, toldI32, toldU32, toldUsize, toldF64}
-
--- two answers that tell the same are the same, where what is told can be turned back
-pub one-reply : {A B : Type 0} (told : A → B) (back : B → A) → ((r : A) → back (told r) ≡ r) → {r s : A} {t : B} → told r ≡ t → told s ≡ t → r ≡ s
-one-reply told back there {r} {s} p q = sym (there r) ∙ ap back (p ∙ sym q) ∙ there s
 
 -- the refusal of a number and values
 pub refusal : ℕ → List ℕ → WireError

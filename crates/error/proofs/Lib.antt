@@ -1,5 +1,3 @@
--- Laws that every crate uses.
-pub mod Cases
-pub mod Table
+-- The laws of refusals and of what an answer tells.
 pub mod Decides
-pub mod Stores
+pub mod One

@@ -1,7 +1,8 @@
 -- Document 01, 'Refusal numbers': the number and the values of each refusal, and what a call tells.
 -- A rule of any crate speaks of `Told` alone: it knows numbers and values, and no enum.
 use Prim.Native.Nat.{ℕ}
-use mathlib.Core.List.{List, [], _∷_}
+use mathlib.Core.List.{List, [], _∷_, _++_}
+use lib.ListN.{length, drop}
 use Rattle.error.specs.declared.WireError.{WireError}
 use Rattle.error.specs.declared.WireError.the-variants.{FrameTooShort, MissingStart, MissingEnd, InvalidEscape, ChecksumMismatch, UnknownBusAddr, PayloadTooShort, NoRoom, BadState, PayloadTooLong, NoField}
 
@@ -43,3 +44,13 @@ refused e = no (numberOf e) (valuesOf e)
 abbrev pub onYes : {A B : Type 0} → (A → B) → Told A → Told B
 onYes f (yes a) = yes (f a)
 onYes f (no k vs) = no k vs
+
+-- a rule that goes on from a value, where it was not refused
+abbrev pub andThen : {A B : Type 0} → Told A → (A → Told B) → Told B
+andThen (yes a) rule = rule a
+andThen (no k vs) rule = no k vs
+
+-- what is told of bytes fills a buffer's front and the rest keeps its bytes; a refusal writes nothing
+abbrev pub filled : Told (List ℕ) → List ℕ → List ℕ
+filled (yes w) old = w ++ drop (length w) old
+filled (no k vs) old = old

@@ -4,6 +4,7 @@ ghost use mathlib.Core.Path.{_≡_};
 ghost use mathlib.Core.List.{_++_};
 ghost use Prim.Native.Nat.{_-_};
 ghost use lib.ListN.{length, getD, replicate};
+ghost use Rattle.error.specs.declared.WireError.the-variants.{PayloadTooShort};
 ghost use Rattle.error.specs.Refusal.{numberOf, valuesOf};
 
 pub enum WireError {
@@ -57,6 +58,13 @@ pub enum ResultF64 {
 }
 
 impl WireError {
+    // A payload of kind `kind` that has `got` bytes and needs `need`.
+    pub fn payload_too_short(kind: u8, need: usize, got: usize) -> WireError
+        ensures { λ r. ⌜ r ≡ PayloadTooShort kind need got ⌝ }
+    {
+        WireError::PayloadTooShort { kind, need, got }
+    }
+
     // The refusal's number, 1 to 11.
     pub fn number(self) -> u8
         ensures { λ r. ⌜ r ≡ numberOf self ⌝ }

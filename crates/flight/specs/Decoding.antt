@@ -1,12 +1,13 @@
 -- Document 01, 'Messages': decoding D4, E8 or ED, one rule for the three.
 -- Too short is refused with 7, and beside the refusal every number of the record is zero.
 use Prim.Native.Nat.{ℕ, _+_}
-use mathlib.Core.Bool.{cond, false}
+use mathlib.Core.Bool.{cond}
 use mathlib.Core.List.{List}
 use lib.Dec.{ltb}
 use lib.ListN.{length, getD}
 use lib.IntN.{ℤ, pos}
-use lib.Ieee.{Float, fin}
+use lib.Ieee.{Float}
+use Rattle.general.specs.Number.{zeroF}
 use Rattle.error.specs.Refusal.{Told}
 use Rattle.integer.specs.Fields.{intAt, scaledBy}
 use Rattle.layout.specs.Layout.{answered, row}
@@ -30,7 +31,7 @@ numbersOf m p = record { byte = λ at. getD p at 0; whole = wholeOf m p; figure 
 
 -- every number zero, the floats +0.0
 abbrev pub zeros : Numbers
-zeros = record { byte = λ at. 0; whole = λ n. pos 0; figure = λ n. fin false 0 (pos 0) }
+zeros = record { byte = λ at. 0; whole = λ n. pos 0; figure = λ n. zeroF }
 
 -- the reply, and the record beside it
 unfoldable pub decodeRule : {A : Type 0} → Message → (Numbers → A) → List ℕ → Told Unit × A

@@ -14,7 +14,8 @@ use lib.Ieee.{fin, inf, binary64, minus, up, down, size, odd, fits, toBits, ofBi
 use lib.Ieee.Bits.{ofBits-toBits, nanBits-is}
 use lib.Ieee.Digits.{minus-val, size-le, size-lt}
 use lib.Ieee.Fits.{odd-fits, down-pos}
-use Rattle.float40.specs.Float40.{pow2, zeroF}
+use Rattle.float40.specs.Float40.{pow2}
+use Rattle.general.specs.Number.{zeroF}
 
 -- ---- below, above and between
 

@@ -11,7 +11,7 @@ use mir.Syntax.{Width}
 use mir.Val.{SFits, ofZ}
 use mir.ValLaws.{pow-bits}
 use borrow.Author.Tests.{lt-ltb, le-ltb, le-leb, lt-leb, ltb-false}
-use Rattle.error.proofs.Cases.{by-lt}
+use Rattle.general.proofs.Cases.{by-lt}
 
 -- ---- a - b of two naturals, as `minus` and as `subℕ`
 

@@ -16,7 +16,8 @@ use lib.Ieee.Back.{round-whole, whole-unique}
 use lib.Ieee.Fits.{down-pos, round-fits}
 use lib.Ieee.Scale.{round-same}
 use borrow.Author.Tests.{ne-eqb}
-use Rattle.float40.specs.Float40.{negative, zeroF, pow2, value40}
+use Rattle.float40.specs.Float40.{negative, pow2, value40}
+use Rattle.general.specs.Number.{zeroF}
 use Rattle.float40.proofs.Signed.{counted}
 use Rattle.float40.proofs.Pow2.{pow2-low, pow2-high, pow2-in}
 use Rattle.float40.proofs.Over.{round-over}

@@ -7,11 +7,8 @@ use lib.Dec.{eqb}
 use lib.IntN.{ℤ, pos, negsuc, natAbs, _-ℤ_}
 use lib.Signed.{ltZ}
 use lib.Ieee.{Float, fin, inf, binary64, mul, ofInt}
+use Rattle.general.specs.Number.{zeroF}
 use Rattle.integer.specs.Fields.{intAt}
-
--- +0.0
-abbrev pub zeroF : Float
-zeroF = fin false 0 (pos 0)
 
 -- the float 2 ^ k: exact from -1074 to 1023, +0.0 below and infinity above
 unfoldable pub pow2 : ℤ → Float

@@ -8,7 +8,7 @@ use lib.IntN.{pos, natAbs}
 use lib.Signed.{mag}
 use lib.Ieee.{minus}
 use borrow.Author.Tests.{eq-eqb, ne-eqb}
-use Rattle.error.proofs.Cases.{by-eq}
+use Rattle.general.proofs.Cases.{by-eq}
 use Rattle.float40.proofs.Signed.{mag-minus}
 use Rattle.float40_write.specs.Writing.{signOf, fieldOf, fractionOf, sizeOf, withSign, exp40, man40}
 

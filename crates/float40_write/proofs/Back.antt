@@ -18,12 +18,13 @@ use lib.Ieee.Exact.{HasValue}
 use lib.Ieee.Fits.{down-pos}
 use borrow.Author.Tests.{le-ltb}
 use Rattle.error.specs.Refusal.{yes}
-use Rattle.error.proofs.Cases.{by-lt}
+use Rattle.general.proofs.Cases.{by-lt}
 use Rattle.integer.specs.Fields.{intAt, reading}
 use Rattle.integer.proofs.Reading.{reads}
 use Rattle.integer_write.specs.Writing.{bytesOf, unsigned, intBytes, written}
 use Rattle.integer_write.proofs.Back.{int-back, int-kept, length-written}
-use Rattle.float40.specs.Float40.{negative, zeroF, value40, float40At}
+use Rattle.float40.specs.Float40.{negative, value40, float40At}
+use Rattle.general.specs.Number.{zeroF}
 use Rattle.float40.proofs.Signed.{minus-le, minus-lt, less}
 use Rattle.float40.proofs.Value.{reads-zero, reads-exact, reads-over}
 use Rattle.float40_write.specs.Writing.{signOf, fieldOf, fractionOf, sizeOf, withSign, exp40, man40, bytes40, bits64, readBack}

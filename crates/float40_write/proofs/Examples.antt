@@ -10,7 +10,8 @@ use lib.Ieee.{Float, fin, size, span, climb, odd, units, round, mul, ofInt, toBi
 use Rattle.error.specs.Refusal.{yes}
 use Rattle.integer.specs.Fields.{beAt, signed, intAt, reading}
 use Rattle.integer_write.specs.Writing.{bytesOf, unsigned, intBytes, writing, written}
-use Rattle.float40.specs.Float40.{zeroF, pow2, value40, float40At}
+use Rattle.float40.specs.Float40.{pow2, value40, float40At}
+use Rattle.general.specs.Number.{zeroF}
 use Rattle.float40_write.specs.Writing.{sizeOf, exp40, man40, bytes40, bits64}
 
 -- reading five bytes, and writing a float over five others

@@ -7,7 +7,7 @@ use native.Mathlib.Omega.{arith}
 use lib.ListN.{length, take, drop, length-append}
 use lib.Seq.{sets, length-sets, sets-eq, drop-length}
 use borrow.Rule.Slice.PartMut.{putMid, post-is}
-use Rattle.error.proofs.Stores.{sets-append}
+use Rattle.general.proofs.Stores.{sets-append}
 use Rattle.integer_write.specs.Writing.{intBytes, written}
 use Rattle.integer_write.proofs.Bytes.{length-int}
 use Rattle.integer_write.proofs.Cases.{writes}

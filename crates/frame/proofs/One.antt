@@ -4,12 +4,13 @@ use mathlib.Core.Path.{_≡_, refl, sym, ap, _∙_}
 use mathlib.Core.List.{List}
 use Prim.Native.Nat.{ℕ}
 use lib.ListN.{length}
-use Rattle.error.specs.Refusal.{Told, onYes}
-use Rattle.error.proofs.Decides.{one-reply, turned, there}
+use Rattle.error.specs.Refusal.{Told, onYes, filled}
+use Rattle.error.proofs.Decides.{turned, there}
+use Rattle.general.proofs.One.{one-reply}
 use Rattle.frame.specs.declared.RawFrame.{RawFrame}
 use Rattle.frame.specs.declared.ResultRawFrame.{ResultRawFrame}
 use Rattle.frame.specs.declared.ResultRawFrame.the-variants.{Ok, Err}
-use Rattle.frame.specs.Rule.{filled, parseRule, headerOf, toldRawFrame}
+use Rattle.frame.specs.Rule.{parseRule, headerOf, toldRawFrame}
 
 back-frame : (r : ResultRawFrame) → turned Ok Err (toldRawFrame r) ≡ r
 unfolding turned

@@ -7,14 +7,14 @@ use native.Mathlib.Nat.{zero-add}
 use native.Mathlib.Omega.{arith}
 use lib.ListN.{length, take, drop, getD, length-append, List·getD-map}
 use lib.Seq.{take-at, getD-at, getD-append-add}
-use Rattle.error.specs.Refusal.{Told, yes}
+use Rattle.error.specs.Refusal.{Told, yes, andThen}
 use Rattle.addr.proofs.Back.{address-back}
 use Rattle.stuffing.specs.Stuff.{stuff, sum16}
 use Rattle.unstuffing.specs.Unstuff.{unstuff, byteAt, offsetAt}
 use Rattle.stuffing.proofs.Stuffing.{stuff-append, stuff-least}
 use Rattle.unstuffing.proofs.Unstuffing.{placed, unstuff-stuff, bytes-placed, length-placed, offset-placed}
 use Rattle.frame.specs.Wire.{Fields, fields, bodyOf, csOf, wireOf}
-use Rattle.frame.specs.Rule.{then, encodeRule, interior, receivedOf, computedOf, payloadOf, unitsRule, checkRule, parseRule}
+use Rattle.frame.specs.Rule.{encodeRule, interior, receivedOf, computedOf, payloadOf, unitsRule, checkRule, parseRule}
 use Rattle.checking.proofs.Cases.{framed, many, matching, both-known}
 use Rattle.frame.proofs.Cases.{parse-fits}
 use Rattle.frame.proofs.Wires.{head, text, wire-is, written-is}
@@ -71,12 +71,12 @@ module _ (f : Fields) where
       let long : 7 ≤ length w = omega (arith, length-us, length-placed 0 (text f), stuff-least (text f), length-append m (0xF1 ∷ [])) in
       ap checkRule (wire-is f)
       ∙ framed w long refl (last-is m)
-      ∙ ap (λ (x : Told (List (ℕ × ℕ))). then x (unitsRule (length w) (interior w))) (ap (unstuff 0) (interior-is m) ∙ unstuff-stuff 0 (text f))
+      ∙ ap (λ (x : Told (List (ℕ × ℕ))). andThen x (unitsRule (length w) (interior w))) (ap (unstuff 0) (interior-is m) ∙ unstuff-stuff 0 (text f))
       ∙ units-checked (length w) (interior w) (interior-is m)
 
   pub wire-parsed : (room : ℕ) → length (f .payload) ≤ room → parseRule (wireOf f) room ≡ yes f
   wire-parsed room h = parse-fits (wireOf f) room f wire-checked h
 
-  -- encode, then parse
+  -- encode, andThen parse
   pub round-trip : {w : List ℕ} (room-out room-in : ℕ) → encodeRule f room-out ≡ yes w → length (f .payload) ≤ room-in → parseRule w room-in ≡ yes f
   round-trip room-out room-in e h = rw (written-is f room-out e) (wire-parsed room-in h)

@@ -11,7 +11,7 @@ use lib.Dec.{eqb, leb}
 use lib.ListN.{length, take, drop, getD, set, length-append, length-take, length-drop, take-append-drop}
 use lib.Seq.{sets, sets-eq, length-take-le, take-all, getD-drop, drop-drop, take-at, take-suc-set, take-set-le}
 use borrow.Author.Tests.{eq-eqb, ne-eqb, le-leb}
-use Rattle.error.proofs.Cases.{by-test, by-eq}
+use Rattle.general.proofs.Cases.{by-test, by-eq}
 use Rattle.stuffing.specs.Stuff.{unescapeOf}
 use Rattle.unstuffing.specs.Unstuff.{bytesOf}
 use Rattle.unstuffing.specs.Proper.{Proper, none, byte, escape, kept}

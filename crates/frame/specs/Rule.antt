@@ -5,15 +5,14 @@ use mathlib.Core.Bool.{cond}
 use mathlib.Core.List.{List, [], _∷_}
 use lib.Dec.{ltb}
 use lib.ListN.{length}
-use Rattle.error.specs.Refusal.{Told, yes, no, refused}
+use Rattle.error.specs.Refusal.{Told, yes, no, refused, andThen}
 use Rattle.addr.specs.declared.BusAddr.{BusAddr}
 use Rattle.encoding.specs.Wire.{Fields}
 use Rattle.frame.specs.declared.RawFrame.{RawFrame}
 use Rattle.frame.specs.declared.ResultRawFrame.{ResultRawFrame}
 use Rattle.frame.specs.declared.ResultRawFrame.the-variants.{Ok, Err}
-pub use Rattle.encoding.specs.Encode.{filled}
 unfoldable pub use Rattle.encoding.specs.Encode.{encodeRule}
-pub use Rattle.checking.specs.Rule.{then, interior, receivedOf, computedOf, payloadOf}
+pub use Rattle.checking.specs.Rule.{interior, receivedOf, computedOf, payloadOf}
 unfoldable pub use Rattle.checking.specs.Rule.{addressesRule, sumRule, unitsRule, checkRule}
 
 -- payload longer than the lent buffer (8)
@@ -21,7 +20,7 @@ abbrev pub roomRule : ℕ → Fields → Told Fields
 roomRule room f = cond (ltb room (length (f .payload))) (no 8 (length (f .payload) ∷ room ∷ [])) (yes f)
 
 unfoldable pub parseRule : List ℕ → ℕ → Told Fields
-parseRule wire room = then (checkRule wire) (roomRule room)
+parseRule wire room = andThen (checkRule wire) (roomRule room)
 
 -- a frame as it is answered: its payload stands in the lent buffer, and its length here
 abbrev pub rawFrame : BusAddr → BusAddr → ℕ → ℕ → RawFrame

@@ -4,11 +4,11 @@ ghost use mathlib.Core.Path.{_≡_};
 ghost use mathlib.Core.List.{_++_};
 ghost use Prim.Native.Nat.{_+_, _≤_};
 ghost use lib.ListN.{length, take};
-ghost use Rattle.error.specs.Refusal.{onYes};
+ghost use Rattle.error.specs.Refusal.{onYes, filled};
 ghost use Rattle.error.specs.Result.{toldUsize};
 ghost use Rattle.unstuffing.specs.Proper.{kept};
 ghost use Rattle.frame.specs.Wire.{fields};
-ghost use Rattle.frame.specs.Rule.{filled, encodeRule, parseRule, headerOf, toldRawFrame};
+ghost use Rattle.frame.specs.Rule.{encodeRule, parseRule, headerOf, toldRawFrame};
 ghost use Rattle.frame.specs.Walk.{raw, slots};
 use addr::BusAddr;
 use blocks::block;
@@ -17,10 +17,9 @@ use checking::ResultHead;
 use checking::check;
 use error::ResultUsize;
 use error::WireError;
+use marks::ESC;
 use stuffing::select;
 use stuffing::unescape;
-
-const ESC: u8 = 0xFD;
 
 // A frame's header, and the length of its payload, which stands at the front of the lent buffer.
 pub struct RawFrame {

@@ -12,7 +12,7 @@ use mir.Syntax.{Width}
 use mir.Val.{SFits, toZ, hbits}
 use mir.ValLaws.{toZ-pos}
 use borrow.Author.Tests.{lt-ltb, le-ltb}
-use Rattle.error.proofs.Cases.{by-lt}
+use Rattle.general.proofs.Cases.{by-lt}
 use Rattle.integer.specs.Fields.{signed}
 
 pub halves : (w : ℕ) → 0 < w → 2 ^ w ≡ 2 ^ (w - 1) * 2

@@ -7,7 +7,7 @@ use native.Mathlib.Nat.{add-mul, mod-lt, mod-eq-of-lt}
 use lib.Pow.{pow-pos, shr-lt, split, low, mod-mod-pow, ones-split}
 use lib.IntN.{ℤ, pos, negsuc}
 use lib.Signed.{mag}
-use Rattle.error.proofs.Cases.{by-lt}
+use Rattle.general.proofs.Cases.{by-lt}
 use Rattle.integer.specs.Fields.{signed}
 use Rattle.integer.proofs.Complement.{halves, low-is, high-is}
 use Rattle.integer_write.specs.Writing.{unsigned}

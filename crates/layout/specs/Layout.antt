@@ -1,12 +1,13 @@
 -- Document 01, 'Messages': how the fields of a record are read, each by place, width and scale.
 -- A table of fields is written in these words once, for a payload and for a refusal alike.
 use Prim.Native.Nat.{ℕ, zero, suc}
-use mathlib.Core.Bool.{cond, false}
+use mathlib.Core.Bool.{cond}
 use mathlib.Core.List.{List, [], _∷_}
 use lib.Dec.{ltb}
 use lib.ListN.{length, getD, take}
 use lib.IntN.{ℤ, pos}
-use lib.Ieee.{Float, fin, binary64, ofInt}
+use lib.Ieee.{Float, binary64, ofInt}
+use Rattle.general.specs.Number.{zeroF}
 use Rattle.error.specs.Refusal.{Told, yes, no}
 use Rattle.integer.specs.Fields.{beAt, intAt, scaledBy}
 
@@ -33,7 +34,7 @@ fieldsOf p =
 
 -- every number zero, the floats +0.0
 abbrev pub zeros : Source
-zeros = record { byte = λ at. 0; int = λ k at. pos 0; uint = λ k at. 0; figure = λ f k at. fin false 0 (pos 0) }
+zeros = record { byte = λ at. 0; int = λ k at. pos 0; uint = λ k at. 0; figure = λ f k at. zeroF }
 
 -- a message that wants so many bytes: the answer, and what its record is read from, the first so many
 unfoldable pub answered : ℕ → ℕ → List ℕ → Told Unit

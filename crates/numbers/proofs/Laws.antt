@@ -13,7 +13,8 @@ use borrow.Author.Tests.{eq-eqb, ne-eqb, ltb-true, ltb-false}
 use Rattle.integer.specs.Fields.{scaledBy}
 use Rattle.numbers.specs.declared.Message.{Message}
 use Rattle.numbers.specs.declared.Message.the-variants.{FlightResult, FlightResultV1, ClubResult}
-use Rattle.numbers.specs.Numbers.{shapeOf, countOf, nonzero, atLeastOne, Rule, count, hundredths, thousandths, millionths, scaled, divisorOf, codeOf, entryOf}
+use Rattle.numbers.specs.Numbers.{shapeOf, countOf, atLeastOne, Rule, count, hundredths, thousandths, millionths, scaled, divisorOf, codeOf, entryOf}
+use Rattle.general.specs.Number.{nonzero}
 use Rattle.numbers.specs.Asked.{shownBy, whole, figure}
 
 -- ---- the scale

@@ -9,7 +9,7 @@ use lib.ListN.{getD}
 use lib.IntN.{ℤ}
 use lib.Ieee.{Float}
 use Rattle.error.specs.Refusal.{Told, yes, no}
-use Rattle.error.proofs.Decides.{one-reply}
+use Rattle.general.proofs.One.{one-reply}
 use Rattle.integer.specs.Fields.{scaledBy}
 use Rattle.numbers.specs.declared.Message.{Message}
 use Rattle.numbers.specs.declared.Field.{Field}

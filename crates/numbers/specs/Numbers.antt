@@ -6,6 +6,7 @@ use mathlib.Core.List.{List}
 use lib.Dec.{eqb, leb}
 use lib.IntN.{ℤ, pos, negsuc}
 use lib.Ieee.{Float, binary64, ofInt}
+use Rattle.general.specs.Number.{nonzero}
 use Rattle.integer.specs.Fields.{intAt, scaledBy}
 use Rattle.numbers.specs.declared.Message.{Message}
 use Rattle.numbers.specs.declared.Message.the-variants.{FlightResult, FlightResultV1, ClubResult}
@@ -65,17 +66,12 @@ divisorOf scaled s = s
 
 -- ---- the scale
 
--- 0 becomes 1; negative scales are kept
-abbrev pub nonzero : ℤ → ℤ
-nonzero (pos n) = cond (eqb n 0) (pos 1) (pos n)
-nonzero (negsuc n) = negsuc n
-
 -- anything below 1 becomes 1
 abbrev pub atLeastOne : ℤ → ℤ
 atLeastOne (pos n) = cond (eqb n 0) (pos 1) (pos n)
 atLeastOne (negsuc n) = pos 1
 
--- what the scale's number divides by
+-- what the scale's number divides by; `nonzero` keeps a negative scale
 abbrev pub scaleRule : Message → ℤ → ℤ
 scaleRule FlightResult z = nonzero z
 scaleRule FlightResultV1 z = atLeastOne z

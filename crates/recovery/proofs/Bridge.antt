@@ -9,14 +9,14 @@ use lib.Seq.{take-at}
 use contract.Lifetimes.{Lfts}
 use denote.Triple.Clauses.{AtExit}
 use borrow.Fn.Kinds.{Dens, endedOf}
-use Rattle.error.specs.Refusal.{Told, yes, no, onYes}
+use Rattle.error.specs.Refusal.{Told, yes, no, onYes, filled}
 use Rattle.error.specs.Result.{toldUsize}
 use Rattle.error.specs.declared.ResultUsize.{ResultUsize}
 use Rattle.error.specs.declared.ResultUsize.the-variants as usize
 use Rattle.encoding.proofs.Cases.{encode-fits}
 use Rattle.frame.specs.declared.ResultRawFrame.{ResultRawFrame}
 use Rattle.frame.specs.Wire.{Fields, fields, wireOf}
-use Rattle.frame.specs.Rule.{filled, encodeRule, parseRule, headerOf, toldRawFrame}
+use Rattle.frame.specs.Rule.{encodeRule, parseRule, headerOf, toldRawFrame}
 use Rattle.frame.proofs.Round.{round-trip}
 use Rattle.recovery.specs.Recovery.{Sent}
 use Rattle.frame.proofs.RawFrame.encode.Kinds as encode-kinds

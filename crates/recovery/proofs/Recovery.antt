@@ -6,7 +6,7 @@ use Prim.Native.Nat.{ℕ, suc, _+_}
 use native.Mathlib.Omega.{arith}
 use lib.Dec.{leb}
 use lib.ListN.{length, length-append, length-replicate}
-use Rattle.error.proofs.Cases.{by-test}
+use Rattle.general.proofs.Cases.{by-test}
 use Rattle.splitter.specs.declared.FrameSplitter.{FrameSplitter}
 use Rattle.search.specs.First.{indexOf}
 use Rattle.splitter.specs.Feed.{new}

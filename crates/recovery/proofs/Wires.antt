@@ -9,7 +9,7 @@ use lib.Dec.{eqb}
 use lib.ListN.{length, take, length-append}
 use lib.Seq.{take-length}
 use borrow.Author.Tests.{eqb-true, le-leb}
-use Rattle.error.proofs.Cases.{by-test}
+use Rattle.general.proofs.Cases.{by-test}
 use Rattle.frame.proofs.Wires.{Framed, wire-framed, written-is}
 use Rattle.stuffing.proofs.Stuffing.{has}
 use Rattle.search.specs.First.{indexOf}

@@ -8,7 +8,7 @@ use native.Mathlib.Nat.{pow-suc, div-lt-iff-lt-mul}
 use lib.Dec.{lit<}
 use lib.ListN.{length, getD, length-append, List·getD-append}
 use borrow.Author.Tests.{lt-ltb, le-ltb}
-use Rattle.error.proofs.Cases.{by-lt}
+use Rattle.general.proofs.Cases.{by-lt}
 use Rattle.report.specs.Text.{decimalIn, decimalOf}
 
 -- ---- the two cases

@@ -8,7 +8,7 @@ use native.Mathlib.Numerals.{add-one}
 use native.Mathlib.Omega.{arith}
 use lib.ListN.{length, take, drop, getD, set, length-append}
 use lib.Seq.{sets, sets-eq, length-sets, set-comm, take-suc, length-take-le}
-use Rattle.error.proofs.Stores.{sets-append}
+use Rattle.general.proofs.Stores.{sets-append}
 use Rattle.report.specs.Put.{Put}
 
 pub set-before : (d : List ℕ) (i : ℕ) (t : List ℕ) (j x : ℕ) → j < i → set (sets d i t) j x ≡ sets (set d j x) i t

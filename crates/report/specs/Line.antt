@@ -6,10 +6,9 @@ use mathlib.Core.Bool.{Bool, cond}
 use mathlib.Core.List.{List, [], _∷_, _++_, map}
 use lib.Dec.{leb}
 use lib.ListN.{length}
-use Rattle.error.specs.Refusal.{Told, yes, no, onYes}
+use Rattle.error.specs.Refusal.{Told, yes, no, onYes, filled}
 use Rattle.addr.specs.Address.{byteOf}
 use Rattle.frame.specs.declared.RawFrame.{RawFrame}
-use Rattle.frame.specs.Rule.{filled}
 use Rattle.report.specs.Text.{decimalOf, hexOf}
 
 -- words, a space before each

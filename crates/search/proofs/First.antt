@@ -10,7 +10,7 @@ use lib.Dec.{eqb}
 use lib.ListN.{length, drop, getD, length-drop, drop-of-length-le}
 use lib.Seq.{drop-cons}
 use borrow.Author.Tests.{eq-eqb, ne-eqb, eqb-true}
-use Rattle.error.proofs.Cases.{by-test}
+use Rattle.general.proofs.Cases.{by-test}
 use Rattle.search.specs.First.{indexOf, firstFrom}
 
 -- ---- one step

@@ -7,8 +7,7 @@ use native.Mathlib.Omega.{arith}
 use lib.Dec.{lit≤}
 use lib.ListN.{length, drop}
 use borrow.Author.Tests.{le-leb}
-use Rattle.error.specs.Refusal.{Told, yes, no, onYes}
-use Rattle.frame.specs.Rule.{filled}
+use Rattle.error.specs.Refusal.{Told, yes, no, onYes, filled}
 use Rattle.report.specs.Line.{Lined, fitted}
 use Rattle.splitter.specs.declared.Fed.{Fed}
 use Rattle.splitter.specs.Feed.{Given, feedRule, toldEvent}

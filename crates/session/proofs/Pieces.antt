@@ -11,7 +11,7 @@ use lib.ListN.{length, take, drop, length-append, length-drop, drop-of-length-le
 use lib.Seq.{drop-drop, take-all, take-at, drop-at}
 use borrow.Author.Tests.{le-ltb}
 use Rattle.error.specs.Refusal.{yes}
-use Rattle.error.proofs.Cases.{by-test}
+use Rattle.general.proofs.Cases.{by-test}
 use Rattle.splitter.specs.declared.FrameSplitter.{FrameSplitter}
 use Rattle.search.specs.First.{firstFrom}
 use Rattle.splitter.specs.Feed.{feedRule, runs, ends, goesOn, isBad, isOpen, isKept, startIn, total}

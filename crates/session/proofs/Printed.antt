@@ -10,11 +10,11 @@ use lib.Dec.{ltb}
 use lib.ListN.{length, take, drop, length-append, length-drop}
 use lib.Seq.{take-append-seam}
 use borrow.Author.Tests.{ltb-false, le-leb}
-use Rattle.error.specs.Refusal.{Told, yes, no, onYes}
+use Rattle.error.specs.Refusal.{Told, yes, no, onYes, filled, andThen}
 use Rattle.error.specs.Result.{toldUsize}
-use Rattle.error.proofs.Cases.{by-test}
+use Rattle.general.proofs.Cases.{by-test}
 use Rattle.frame.specs.Wire.{Fields}
-use Rattle.frame.specs.Rule.{filled, then, checkRule, roomRule, parseRule}
+use Rattle.frame.specs.Rule.{checkRule, roomRule, parseRule}
 use Rattle.splitter.specs.declared.FrameSplitter.{FrameSplitter}
 use Rattle.splitter.specs.Feed.{Given, new, toldEvent, isBad}
 use Rattle.stream.specs.Stream.{Said, More, Overlong, Frame, Refused, saidOf, Call, Calls, Feeds, joined, unlessMore, answers, answerTo}
@@ -33,7 +33,7 @@ use Rattle.session.specs.Program.{first, runs, printed}
 use Rattle.session.proofs.Rules.{piece-fits}
 
 -- the payload buffer keeps its length: a payload that is answered fits it
-sized : (p : List ℕ) (x : Told Fields) → length (filled (onYes (λ (f : Fields). f .payload) (then x (roomRule (length p)))) p) ≡ length p
+sized : (p : List ℕ) (x : Told Fields) → length (filled (onYes (λ (f : Fields). f .payload) (andThen x (roomRule (length p)))) p) ≡ length p
 sized p (no k vs) = refl
 sized p (yes f) =
     by-test (ltb (length p) (length (f .payload)))

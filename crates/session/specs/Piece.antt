@@ -5,9 +5,9 @@ use mathlib.Core.Bool.{cond}
 use mathlib.Core.List.{List, [], _∷_, _++_}
 use lib.Dec.{leb, ltb}
 use lib.ListN.{length, take, drop}
-use Rattle.error.specs.Refusal.{Told, yes, no, onYes}
+use Rattle.error.specs.Refusal.{Told, yes, no, onYes, filled}
 use Rattle.error.specs.Result.{toldUsize}
-use Rattle.frame.specs.Rule.{parseRule, filled}
+use Rattle.frame.specs.Rule.{parseRule}
 use Rattle.splitter.specs.Feed.{Given, feedRule, isBad}
 use Rattle.stream.specs.Stream.{Said, More, Overlong, Frame, Refused, saidOf}
 use Rattle.session.specs.declared.Session.{Session}

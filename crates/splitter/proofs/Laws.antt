@@ -10,7 +10,7 @@ use lib.ListN.{length}
 use lib.Seq.{take-length, paste}
 use borrow.Author.Tests.{eq-eqb, ne-eqb, lt-ltb, le-ltb, ltb-false, leb-true, leb-false}
 use Rattle.error.specs.Refusal.{no}
-use Rattle.error.proofs.Cases.{by-test}
+use Rattle.general.proofs.Cases.{by-test}
 use Rattle.search.specs.First.{firstFrom}
 use Rattle.splitter.specs.declared.FrameSplitter.{FrameSplitter}
 use Rattle.splitter.specs.declared.Fed.{Fed}

@@ -6,12 +6,10 @@ ghost use Prim.Native.Nat.{_+_, _≤_};
 ghost use lib.ListN.{length};
 ghost use Rattle.splitter.specs.Feed.{new, isBad, isKept, startIn, laid, shown, ends, goesOn, feedRule};
 use error::WireError;
+use marks::END;
+use marks::START;
 use search::find;
 use search::find_far;
-
-const START: u8 = 0xF0;
-
-const END: u8 = 0xF1;
 
 // The state between two calls: how many bytes of an open frame the hold buffer has, or that
 // the open frame is longer than that buffer and is skipped up to its end.

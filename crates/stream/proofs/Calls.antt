@@ -10,7 +10,7 @@ use lib.Dec.{eqb, leb}
 use lib.ListN.{length, take, drop, length-append, length-take, length-drop, take-append-drop, drop-of-length-le, replicate-append-replicate}
 use lib.Seq.{take-add, take-all, take-at, take-length}
 use borrow.Author.Tests.{ne-eqb, eqb-true, le-leb, lt-leb, leb-true, leb-false, le-ltb}
-use Rattle.error.proofs.Cases.{by-test, by-lt}
+use Rattle.general.proofs.Cases.{by-test, by-lt}
 use Rattle.splitter.specs.declared.FrameSplitter.{FrameSplitter}
 use Rattle.search.specs.First.{indexOf}
 use Rattle.search.proofs.First.{found, index-le}

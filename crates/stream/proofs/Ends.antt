@@ -13,7 +13,7 @@ use borrow.Author.Tests.{eqb-true, not-false, le-leb}
 use Rattle.error.specs.Refusal.{Told, yes, no}
 use Rattle.error.specs.declared.WireError.{WireError}
 use Rattle.error.specs.declared.WireError.the-variants.{BadState}
-use Rattle.error.proofs.Cases.{by-test}
+use Rattle.general.proofs.Cases.{by-test}
 use Rattle.error.proofs.Decides.{there}
 use Rattle.splitter.specs.declared.FrameSplitter.{FrameSplitter}
 use Rattle.splitter.specs.declared.Fed.{Fed}

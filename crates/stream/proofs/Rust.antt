@@ -11,7 +11,7 @@ use lib.Dec.{eqb, leb}
 use lib.ListN.{length, take, drop, length-drop, drop-of-length-le, take-append-drop}
 use lib.Seq.{drop-drop}
 use borrow.Author.Tests.{eqb-true, lt-ltb, le-ltb}
-use Rattle.error.proofs.Cases.{by-test, by-lt}
+use Rattle.general.proofs.Cases.{by-test, by-lt}
 use Rattle.splitter.specs.declared.FrameSplitter.{FrameSplitter}
 use Rattle.search.specs.First.{indexOf}
 use Rattle.search.proofs.First.{found}

@@ -10,7 +10,7 @@ use lib.Dec.{eqb}
 use lib.ListN.{length, take, drop, getD, length-append, take-append-drop}
 use lib.Seq.{drop-cons, drop-drop}
 use borrow.Author.Tests.{ne-eqb}
-use Rattle.error.proofs.Cases.{by-test, by-eq}
+use Rattle.general.proofs.Cases.{by-test, by-eq}
 use Rattle.stuffing.specs.Stuff.{escapeOf, stuffByte, stuff}
 use Rattle.stuffing.proofs.Codes.{plain, escaped, code-small}
 

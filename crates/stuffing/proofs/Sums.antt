@@ -10,7 +10,7 @@ use lib.Seq.{drop-cons}
 use lib.Dec.{eqb}
 use borrow.Author.Tests.{eq-eqb, ne-eqb}
 use mathlib.Core.Bool.{cond}
-use Rattle.error.proofs.Cases.{by-eq}
+use Rattle.general.proofs.Cases.{by-eq}
 use Rattle.stuffing.proofs.Codes.{plain, escaped}
 use Rattle.stuffing.specs.Stuff.{escapeOf, stuffByte, total, sum16}
 

@@ -6,8 +6,7 @@ ghost use Prim.Native.Nat.{_-_, _%_};
 ghost use lib.Dec.{eqb};
 ghost use lib.ListN.{length};
 ghost use Rattle.stuffing.specs.Stuff.{escapeOf, unescapeOf, stuff, sum16};
-
-const ESC: u8 = 0xFD;
+use marks::ESC;
 
 // `same` where x is the key, else `other`.
 pub fn select(x: u8, key: u8, same: u8, other: u8) -> u8

@@ -10,7 +10,7 @@ use lib.Dec.{eqb}
 use lib.ListN.{length}
 use borrow.Author.Tests.{eq-eqb, ne-eqb}
 use Rattle.error.specs.Refusal.{Told, yes, no}
-use Rattle.error.proofs.Cases.{by-test, by-eq}
+use Rattle.general.proofs.Cases.{by-test, by-eq}
 use Rattle.stuffing.specs.Stuff.{unescapeOf}
 use Rattle.unstuffing.specs.Proper.{Proper, none, byte, escape, kept}
 use Rattle.unstuffing.specs.Unstuff.{escapeAt, stepAt, after, unstuff}

@@ -11,7 +11,7 @@ use lib.ListN.{length, drop, getD, length-append, length-map}
 use lib.Seq.{drop-cons, drop-drop}
 use borrow.Author.Tests.{ne-eqb}
 use Rattle.error.specs.Refusal.{yes, onYes}
-use Rattle.error.proofs.Cases.{by-test, by-eq}
+use Rattle.general.proofs.Cases.{by-test, by-eq}
 use Rattle.stuffing.specs.Stuff.{escapeOf, unescapeOf, stuffByte, stuff}
 use Rattle.unstuffing.specs.Proper.{widthOf}
 use Rattle.unstuffing.specs.Unstuff.{escapeAt, stepAt, after, unstuff, bytesOf, offsetAt}

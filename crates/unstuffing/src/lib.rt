@@ -12,11 +12,10 @@ ghost use Rattle.unstuffing.specs.Proper.{Proper, kept};
 ghost use Rattle.unstuffing.specs.Unstuff.{toldU8, stepAt, unstuff};
 use error::ResultUsize;
 use error::WireError;
+use marks::ESC;
 use stuffing::select;
 use stuffing::unescape;
 use stuffing::wide;
-
-const ESC: u8 = 0xFD;
 
 pub enum ResultU8 {
     Ok(u8),

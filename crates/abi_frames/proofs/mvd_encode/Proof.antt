@@ -4,13 +4,13 @@ use mathlib.Core.Path.{_≡_, sym, ap, _∙_}
 use mathlib.Core.List.{List}
 use Prim.Native.Nat.{ℕ}
 use lib.ListN.{length}
-use Rattle.error.specs.Refusal.{Told, onYes}
+use Rattle.error.specs.Refusal.{Told, onYes, filled, andThen}
 use Rattle.error.specs.Result.{toldUsize}
 use Rattle.addr.specs.declared.BusAddr.{BusAddr}
 use Rattle.addr.specs.declared.ResultBusAddr.{ResultBusAddr}
 use Rattle.addr.specs.Address.{addressRule, toldBusAddr}
 use Rattle.frame.specs.Wire.{fields}
-use Rattle.frame.specs.Rule.{then, filled, encodeRule}
+use Rattle.frame.specs.Rule.{encodeRule}
 use Rattle.abi.proofs.Passing.{passed, refuses}
 use Rattle.abi_frames.specs.Frames.{encodedOf}
 use Rattle.abi_frames.proofs.mvd_encode.Statement.{statement}
@@ -31,10 +31,10 @@ module _ (c : tie.After-from-byte) where
   last d s = encodeRule (fields d s (start .args .type-id) (start .args .payload .now)) (length wire)
 
   abbrev rest : BusAddr → Told (List ℕ)
-  rest d = then (addressRule (start .args .src)) (last d)
+  rest d = andThen (addressRule (start .args .src)) (last d)
 
-  by-dest : {r : ResultBusAddr} → c .from-byte .result ≡ r → then (toldBusAddr r) rest ≡ all
-  by-dest p = ap (λ (u : Told BusAddr). then u rest) (sym (ap toldBusAddr p) ∙ c .from-byte .ensures)
+  by-dest : {r : ResultBusAddr} → c .from-byte .result ≡ r → andThen (toldBusAddr r) rest ≡ all
+  by-dest p = ap (λ (u : Told BusAddr). andThen u rest) (sym (ap toldBusAddr p) ∙ c .from-byte .ensures)
 
   fills : {t : Told (List ℕ)} → t ≡ all → filled t wire ≡ filled all wire
   fills p = ap (λ (u : Told (List ℕ)). filled u wire) p
@@ -47,9 +47,9 @@ module _ (c : tie.After-from-byte2) where
   abbrev to : BusAddr
   to = c .before .before .d .given .0 .0
 
-  by-src : {r : ResultBusAddr} → c .from-byte2 .result ≡ r → then (toldBusAddr r) (last first to) ≡ all first
+  by-src : {r : ResultBusAddr} → c .from-byte2 .result ≡ r → andThen (toldBusAddr r) (last first to) ≡ all first
   by-src p =
-      ap (λ (u : Told BusAddr). then u (last first to)) (sym (ap toldBusAddr p) ∙ c .from-byte2 .ensures)
+      ap (λ (u : Told BusAddr). andThen u (last first to)) (sym (ap toldBusAddr p) ∙ c .from-byte2 .ensures)
       ∙ by-dest first (c .before .before .d .given .1)
 
 -- once both are addresses, and the frame is encoded

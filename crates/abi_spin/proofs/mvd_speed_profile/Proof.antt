@@ -3,7 +3,7 @@
 use borrow.Author.Needs.{needs}
 use mathlib.Core.Path.{sym, ap, _∙_}
 use Rattle.error.specs.Refusal.{yes, onYes}
-use Rattle.speed.specs.Profile.{toldSpeedProfile}
+use Rattle.speed_profile.specs.Profile.{toldSpeedProfile}
 use Rattle.abi.proofs.Passing.{passed, refuses}
 use Rattle.abi_spin.specs.Numbers.{profileNumbers}
 use Rattle.abi_spin.proofs.mvd_speed_profile.Statement.{statement}

@@ -7,7 +7,7 @@ use native.Mathlib.Omega.{arith}
 use lib.Dec.{T, ltb, ltb→lt}
 use lib.Ieee.{binary64, nanBits}
 use lib.Ieee.Bits.{nanBits-above}
-use Rattle.error.proofs.Cases.{by-test}
+use Rattle.general.proofs.Cases.{by-test}
 use Rattle.cases.proofs.float.Statement.{statement}
 use Rattle.cases.proofs.float.Tie as tie
 

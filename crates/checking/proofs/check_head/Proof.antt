@@ -1,16 +1,16 @@
--- `check_head` meets its contract: DEST, then SRC, each as its byte tells.
+-- `check_head` meets its contract: DEST, andThen SRC, each as its byte tells.
 use borrow.Author.Needs.{needs}
 use mathlib.Core.Path.{_≡_, refl, sym, ap, _∙_}
 use Prim.Native.Nat.{_+_}
 use native.Mathlib.Omega.{arith}
 use lib.ListN.{length, drop}
-use Rattle.error.specs.Refusal.{Told, yes}
+use Rattle.error.specs.Refusal.{Told, yes, andThen}
 use Rattle.addr.specs.declared.BusAddr.{BusAddr}
 use Rattle.addr.specs.declared.ResultBusAddr.the-variants.{Ok, Err}
 use Rattle.addr.specs.Address.{addressRule, toldBusAddr}
 use Rattle.unstuffing.specs.Unstuff.{unstuff}
 use Rattle.unstuffing.specs.Proper.{valueOf}
-use Rattle.checking.specs.Rule.{then, head}
+use Rattle.checking.specs.Rule.{head}
 use Rattle.checking.specs.Walk.{frontRule}
 use Rattle.checking.proofs.Reading.{dest-inside, src-proper, src-inside, type-proper, type-inside, payload-inside, head-told}
 use Rattle.checking.proofs.check_head.Statement.{statement}
@@ -35,8 +35,8 @@ module _ (c : tie.After-value3) where
   place = c .before .before .before .before .before
 
   told : (dest src : Told BusAddr) → dest ≡ toldBusAddr (c .before .before .before .from-byte .result) → src ≡ toldBusAddr (c .before .from-byte2 .result)
-      → then dest (λ d. then src (λ r. yes (head d r (c .value3 .result) (start .args .len) (place .next3 .result + 1) (length (start .args .body .now) + 1))))
-      ≡ then (unstuff 0 (start .args .body .now)) (frontRule (start .args .len) (length (start .args .body .now)))
+      → andThen dest (λ d. andThen src (λ r. yes (head d r (c .value3 .result) (start .args .len) (place .next3 .result + 1) (length (start .args .body .now) + 1))))
+      ≡ andThen (unstuff 0 (start .args .body .now)) (frontRule (start .args .len) (length (start .args .body .now)))
   told dest src de se =
       let m = place .before in
       let n = m .before in

@@ -1,4 +1,4 @@
--- `check_sum` meets its contract: the checksum is tested against the stuffed bytes before it, and then the head is read.
+-- `check_sum` meets its contract: the checksum is tested against the stuffed bytes before it, and andThen the head is read.
 use borrow.Author.Needs.{needs}
 use mathlib.Core.Path.{_≡_, sym, ap, _∙_}
 use mathlib.Core.List.{List, [], _∷_, _++_}
@@ -6,12 +6,12 @@ use Prim.Native.Nat.{ℕ, _+_, _-_, _≤_}
 use native.Mathlib.Omega.{arith}
 use lib.ListN.{length, take, drop, getD}
 use lib.Seq.{length-take-le}
-use Rattle.error.specs.Refusal.{Told, no, onYes}
+use Rattle.error.specs.Refusal.{Told, no, onYes, andThen}
 use Rattle.unstuffing.specs.Unstuff.{unstuff}
 use Rattle.unstuffing.specs.Proper.{widthOf, valueOf}
 use Rattle.unstuffing.proofs.Proper.{unstuff-proper}
 use Rattle.encoding.specs.Wire.{Fields}
-use Rattle.checking.specs.Rule.{then, receivedOf, computedOf, addressesRule, sumRule, headAt}
+use Rattle.checking.specs.Rule.{receivedOf, computedOf, addressesRule, sumRule, headAt}
 use Rattle.checking.specs.Walk.{frontRule}
 use Rattle.checking.proofs.Cases.{mismatch, matching}
 use Rattle.checking.proofs.Reading.{received-is, computed-is, head-is, body-units, units-are, body-kept, length-body}
@@ -41,8 +41,8 @@ module _ (c : tie.After-cs-at) where
   three : 3 ≤ length ub
   three = omega (arith, count, c .before .before .pre .2)
 
-  rule : (t : Told Fields) → sumRule S us ≡ t → then (unstuff 0 S) (λ vs. onYes (headAt vs) (sumRule S vs)) ≡ onYes (headAt us) t
-  rule t e = ap (λ (x : Told (List (ℕ × ℕ))). then x (λ vs. onYes (headAt vs) (sumRule S vs))) (units-are S at (c .cs-at .ensures)) ∙ ap (onYes (headAt us)) e
+  rule : (t : Told Fields) → sumRule S us ≡ t → andThen (unstuff 0 S) (λ vs. onYes (headAt vs) (sumRule S vs)) ≡ onYes (headAt us) t
+  rule t e = ap (λ (x : Told (List (ℕ × ℕ))). andThen x (λ vs. onYes (headAt vs) (sumRule S vs))) (units-are S at (c .cs-at .ensures)) ∙ ap (onYes (headAt us)) e
 
   whole : length (take at S) ≡ at
   whole = length-take-le at S (c .cs-at .ensures .inside)
@@ -96,8 +96,8 @@ returns-2 c =
     let on : receivedOf (us k) ≡ computedOf (S k) (us k) = sym (received h) ∙ i .if1 .left ∙ computed h in
     let n = k .before .before .args .n in
     c .check-head .ensures
-    ∙ ap (λ (m : ℕ). then (unstuff 0 (take (at k) (S k))) (frontRule (n - 5) m)) (whole k)
-    ∙ ap (λ (x : Told (List (ℕ × ℕ))). then x (frontRule (n - 5) (at k))) (unstuff-proper 0 (k .cs-at .ensures .body))
+    ∙ ap (λ (m : ℕ). andThen (unstuff 0 (take (at k) (S k))) (frontRule (n - 5) m)) (whole k)
+    ∙ ap (λ (x : Told (List (ℕ × ℕ))). andThen x (frontRule (n - 5) (at k))) (unstuff-proper 0 (k .cs-at .ensures .body))
     ∙ sym (head-is (ub k) (valueOf (drop (at k) (S k))) (at k) (valueOf (drop (low k) (S k))) (low k) (three k) (n - 5) (omega (arith, count k)))
     ∙ sym (rule k (addressesRule (us k)) (matching (us k) (S k) on))
 

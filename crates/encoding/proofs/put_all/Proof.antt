@@ -8,7 +8,7 @@ use lib.ListN.{length, take, drop, length-append, length-drop}
 use lib.Seq.{sets, length-sets, length-take-le, take-all}
 use Rattle.stuffing.specs.Stuff.{stuff}
 use Rattle.stuffing.proofs.Stuffing.{stuff-part}
-use Rattle.error.proofs.Stores.{sets-append}
+use Rattle.general.proofs.Stores.{sets-append}
 use Rattle.encoding.proofs.put_all.Statement.{statement}
 use Rattle.encoding.proofs.put_all.Tie as tie
 

@@ -8,7 +8,7 @@ use lib.ListN.{length, drop, getD, length-append, drop-of-length-le}
 use lib.Seq.{sets, length-sets}
 use Rattle.stuffing.specs.Stuff.{stuffByte, stuff}
 use Rattle.stuffing.proofs.Stuffing.{stuff-at}
-use Rattle.error.proofs.Stores.{sets-append}
+use Rattle.general.proofs.Stores.{sets-append}
 use Rattle.encoding.proofs.put_each.Statement.{statement}
 use Rattle.encoding.proofs.put_each.Tie as tie
 

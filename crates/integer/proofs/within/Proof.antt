@@ -3,7 +3,7 @@ use Prim.Native.Nat.{_+_, _-_}
 use mathlib.Core.Path.{sym, _∙_}
 use native.Mathlib.Omega.{arith}
 use borrow.Author.Tests.{le-leb, lt-leb}
-use Rattle.error.proofs.Cases.{by-lt}
+use Rattle.general.proofs.Cases.{by-lt}
 use Rattle.integer.proofs.within.Statement.{statement}
 use Rattle.integer.proofs.within.Tie as tie
 

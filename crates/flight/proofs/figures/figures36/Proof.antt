@@ -9,6 +9,7 @@ use borrow.Author.Needs.{needs}
 use lib.IntN.{pos}
 use lib.Ieee.{Float, fin, ofBits}
 use mir.Syntax.{w32}
+use Rattle.general.specs.Number.{zeroF}
 use Rattle.integer.specs.Fields.{intAt}
 use Rattle.layout.specs.Layout.{row}
 use Rattle.layout.proofs.Held.{held}
@@ -18,22 +19,19 @@ use Rattle.flight.proofs.Row.{Filled, ending, filled-none, filled-more,
 use Rattle.flight.proofs.figures.figures36.Statement.{statement}
 use Rattle.flight.proofs.figures.figures36.Tie as tie
 
-abbrev +0 : Float
-+0 = fin false 0 (pos 0)
-
 -- figure j of the row
 abbrev placed : List ℕ → ℕ → ℕ → Float → ℕ → Float
 placed p at d s j = divided d s (intAt 3 p (at + 3 * j))
 
 abbrev Inv-loop : tie.InvT-loop
-Inv-loop p at d s e xs₀ j₀ xs j = (j ≤ 36) × Filled (placed p at d s) +0 36 j xs
+Inv-loop p at d s e xs₀ j₀ xs j = (j ≤ 36) × Filled (placed p at d s) zeroF 36 j xs
 
 abbrev μ-loop : tie.MeasureT-loop
 μ-loop p at d s e xs₀ j₀ xs j = 36 - j
 
 loop-holds : tie.Need-loop-holds Inv-loop μ-loop
 unfolding ofBits
-loop-holds c = (omega arith, filled-none _ +0 36)
+loop-holds c = (omega arith, filled-none _ zeroF 36)
 
 loop-again : tie.Need-loop-again Inv-loop μ-loop
 loop-again c =
@@ -42,7 +40,7 @@ loop-again c =
     let a = l .before .before .before .args in
     let part = int-part (a .p .now) (a .at + 108 - a .at) (a .at) 3 (3 * l .loop .j) (omega arith) in (
       omega arith,
-      filled-more (placed (a .p .now) (a .at) (a .d) (a .s)) +0 (l .loop .inv .1) (omega arith)
+      filled-more (placed (a .p .now) (a .at) (a .d) (a .s)) zeroF (l .loop .inv .1) (omega arith)
           (c .figure .ensures ∙ ap (divided (a .d) (a .s)) (held w32 (z .int24-at .ensures ∙ part) (z .int24-at .ok))),
     )
 
@@ -50,8 +48,8 @@ returns : tie.Need-returns Inv-loop μ-loop
 returns c =
     let a = c .before .before .before .before .args in
     let j : c .before .loop .j ≡ 36 = omega arith in
-    filled-is _ +0 (c .before .loop .inv .1)
-    ∙ ap (λ (n : ℕ). row 36 (ending (placed (a .p .now) (a .at) (a .d) (a .s)) +0 n)) j
+    filled-is _ zeroF (c .before .loop .inv .1)
+    ∙ ap (λ (n : ℕ). row 36 (ending (placed (a .p .now) (a .at) (a .d) (a .s)) zeroF n)) j
 
 pub figures36-spec : {M : Type 1} → statement M
 figures36-spec =
