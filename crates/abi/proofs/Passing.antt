@@ -8,7 +8,7 @@ use Rattle.error.specs.declared.ResultUnit.{ResultUnit}
 use Rattle.error.specs.declared.ResultUnit.the-variants.{Ok, Err}
 use Rattle.error.specs.Refusal.{Told, yes, numberOf, valuesOf, refused}
 use Rattle.error.specs.Result.{toldUnit}
-use Rattle.abi.specs.Answer.{three, codeOf, valueOr, valuesIn, Passed, shown}
+use Rattle.abi.specs.Answer.{three, codeOf, valueOr, valuesIn, Passed, besides}
 
 module _ {A : Type 0} {t : Told A} where
   -- a value, stored
@@ -31,16 +31,16 @@ pub passed-as : {A : Type 0} {t u : Told A} → t ≡ u → {old : A} {olds : Li
     → Passed t old olds k v words → Passed u old olds k v words
 passed-as {A} p {old} {olds} {k} {v} {words} q = subst (λ (w : Told A). Passed w old olds k v words) p q
 
--- a record that stands beside its reply: what is shown of it fills the place, or a refusal leaves it
+-- a record that stands beside its reply: what is besides of it fills the place, or a refusal leaves it
 module _ {R A : Type 0} (f : R → A) {w : Told Unit × R} {a : ResultUnit} {r : R} (reply : (toldUnit a, r) ≡ w) (old : A) (olds : List ℕ) where
-  told-of : {b : ResultUnit} → b ≡ a → shown f (toldUnit b, r) ≡ shown f w
-  told-of e = ap (λ (b : ResultUnit). shown f (toldUnit b, r)) e ∙ ap (shown f) reply
+  told-of : {b : ResultUnit} → b ≡ a → besides f (toldUnit b, r) ≡ besides f w
+  told-of e = ap (λ (b : ResultUnit). besides f (toldUnit b, r)) e ∙ ap (besides f) reply
 
-  pub shows : Ok ≡ a → {x : A} → x ≡ f r → Passed (shown f w) old olds 0 x olds
+  pub shows : Ok ≡ a → {x : A} → x ≡ f r → Passed (besides f w) old olds 0 x olds
   shows e p = passed (ap yes p ∙ told-of e) old olds
 
   pub hides : (e : WireError) → Err e ≡ a → {k : ℕ} {words : List ℕ} → (k ≡ numberOf e) × (words ≡ three (valuesOf e))
-      → Passed (shown f w) old olds k old words
+      → Passed (besides f w) old olds k old words
   hides e p q = refuses e (told-of p) old olds q
 
 -- two allowed replies are equal

@@ -31,9 +31,9 @@ pub record Passed {A : Type 0} (t : Told A) (old : A) (olds : List ℕ) (k : ℕ
   pub value : v ≡ valueOr t old
   pub values : words ≡ valuesIn t olds
 
--- what is shown of a record that stands beside its reply
-abbrev pub shown : {R A : Type 0} → (R → A) → Told Unit × R → Told A
-shown f w = onYes (λ _. f (w .1)) (w .0)
+-- what is besides of a record that stands beside its reply
+abbrev pub besides : {R A : Type 0} → (R → A) → Told Unit × R → Told A
+besides f w = onYes (λ _. f (w .1)) (w .0)
 
 -- two of its parts
 abbrev pub both : {R A B : Type 0} → (R → A) → (R → B) → R → A × B

@@ -8,7 +8,7 @@ ghost use Rattle.flight.specs.Decoding.{decodeRule};
 ghost use Rattle.flight.specs.FlightResultFields.{flightResult};
 ghost use Rattle.flight.specs.FlightResultV1Fields.{flightResultV1};
 ghost use Rattle.flight.specs.ClubResultFields.{clubResult};
-ghost use Rattle.abi.specs.Answer.{both, shown, Passed};
+ghost use Rattle.abi.specs.Answer.{both, Passed, besides};
 ghost use Rattle.abi_flight.specs.Records.{flightWhole, flightFigures, flightV1Whole, flightV1Figures, clubWhole, clubFigures};
 use abi::tell;
 use error::ResultUnit;
@@ -24,7 +24,7 @@ pub extern "C" fn mvd_flight_result(
     figures: &mut [f64; 44],
     values: &mut [u64; 3],
 ) -> u64
-    ensures { λ k. ⌜ Passed (shown (both flightWhole flightFigures) (decodeRule Message.FlightResult flightResult (now (payload .entry))))
+    ensures { λ k. ⌜ Passed (besides (both flightWhole flightFigures) (decodeRule Message.FlightResult flightResult (now (payload .entry))))
         (now (whole .entry), now (figures .entry)) (now (values .entry)) k (now (whole .exit), now (figures .exit)) (now (values .exit)) ⌝ }
 {
     let d = FlightResult::decode(payload);
@@ -47,7 +47,7 @@ pub extern "C" fn mvd_flight_result_v1(
     figures: &mut [f64; 27],
     values: &mut [u64; 3],
 ) -> u64
-    ensures { λ k. ⌜ Passed (shown (both flightV1Whole flightV1Figures) (decodeRule Message.FlightResultV1 flightResultV1 (now (payload .entry))))
+    ensures { λ k. ⌜ Passed (besides (both flightV1Whole flightV1Figures) (decodeRule Message.FlightResultV1 flightResultV1 (now (payload .entry))))
         (now (whole .entry), now (figures .entry)) (now (values .entry)) k (now (whole .exit), now (figures .exit)) (now (values .exit)) ⌝ }
 {
     let d = FlightResultV1::decode(payload);
@@ -70,7 +70,7 @@ pub extern "C" fn mvd_club_result(
     figures: &mut [f64; 53],
     values: &mut [u64; 3],
 ) -> u64
-    ensures { λ k. ⌜ Passed (shown (both clubWhole clubFigures) (decodeRule Message.ClubResult clubResult (now (payload .entry))))
+    ensures { λ k. ⌜ Passed (besides (both clubWhole clubFigures) (decodeRule Message.ClubResult clubResult (now (payload .entry))))
         (now (whole .entry), now (figures .entry)) (now (values .entry)) k (now (whole .exit), now (figures .exit)) (now (values .exit)) ⌝ }
 {
     let d = ClubResult::decode(payload);

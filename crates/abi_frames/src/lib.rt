@@ -93,7 +93,7 @@ pub extern "C" fn mvd_feed(
     ensures reply { λ k. ⌜ Passed (leftBy (feedRule (stateOf (now (count .entry)) (now (skipping .entry))) (now (hold .entry)) (now (chunk .entry))))
         (now (count .entry), now (skipping .entry), now (fed .entry)) (now (values .entry))
         k (now (count .exit), now (skipping .exit), now (fed .exit)) (now (values .exit)) ⌝ }
-    ensures bytes { λ k. ⌜ now (hold .exit) ≡ feedRule (stateOf (now (count .entry)) (now (skipping .entry))) (now (hold .entry)) (now (chunk .entry)) .held ⌝ }
+    ensures bytes { λ k. ⌜ now (hold .exit) ≡ feedRule (stateOf (now (count .entry)) (now (skipping .entry))) (now (hold .entry)) (now (chunk .entry)) .hold ⌝ }
 {
     let state = FrameSplitter {
         count: *count,

@@ -6,7 +6,7 @@ ghost use Rattle.flight.specs.Decoding.{decodeRule};
 ghost use Rattle.flight.specs.Failure.{modelFailure, noRead};
 ghost use Rattle.flight.specs.FlightResultFields.{flightResult};
 ghost use Rattle.flight.specs.FlightResultV1Fields.{flightResultV1};
-ghost use Rattle.abi.specs.Answer.{flagOf, shown, Passed};
+ghost use Rattle.abi.specs.Answer.{flagOf, Passed, besides};
 ghost use Rattle.abi_numbers.specs.Question.{fieldOf, askedOf};
 use abi::flag;
 use abi::tell;
@@ -98,7 +98,7 @@ pub extern "C" fn mvd_is_model_failure(
     failed: &mut u8,
     values: &mut [u64; 3],
 ) -> u64
-    ensures { λ k. ⌜ Passed (shown (λ r. flagOf (modelFailure r)) (decodeRule Message.FlightResult flightResult (now (payload .entry))))
+    ensures { λ k. ⌜ Passed (besides (λ r. flagOf (modelFailure r)) (decodeRule Message.FlightResult flightResult (now (payload .entry))))
         (now (failed .entry)) (now (values .entry)) k (now (failed .exit)) (now (values .exit)) ⌝ }
 {
     let d = FlightResult::decode(payload);
@@ -116,7 +116,7 @@ pub extern "C" fn mvd_is_model_failure(
 // `is_no_read` of a payload's record: 1 for yes.
 #[no_mangle]
 pub extern "C" fn mvd_is_no_read(payload: &[u8], unread: &mut u8, values: &mut [u64; 3]) -> u64
-    ensures { λ k. ⌜ Passed (shown (λ r. flagOf (noRead r)) (decodeRule Message.FlightResultV1 flightResultV1 (now (payload .entry))))
+    ensures { λ k. ⌜ Passed (besides (λ r. flagOf (noRead r)) (decodeRule Message.FlightResultV1 flightResultV1 (now (payload .entry))))
         (now (unread .entry)) (now (values .entry)) k (now (unread .exit)) (now (values .exit)) ⌝ }
 {
     let d = FlightResultV1::decode(payload);

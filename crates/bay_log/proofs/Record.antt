@@ -12,19 +12,19 @@ use Rattle.integer_write.specs.Writing.{bytesOf, intBytes, written}
 use Rattle.integer_write.proofs.Cases.{writes}
 use Rattle.integer_write.proofs.Back.{length-written}
 use Rattle.numbers.specs.Numbers.{wholeOf}
-use Rattle.bay_log.specs.Log.{shownOf, fieldsOf}
+use Rattle.bay_log.specs.Log.{shownOf, logFields}
 use Rattle.bay_log.proofs.Laid.{laid, laid-is, field}
 
-pub record-length : (event : ℕ) (p : List ℕ) → length (flatten (fieldsOf event p)) ≡ 32
-unfolding flatten fieldsOf bytesOf intBytes
+pub record-length : (event : ℕ) (p : List ℕ) → length (flatten (logFields event p)) ≡ 32
+unfolding flatten logFields bytesOf intBytes
 record-length event p = refl
 
 -- it fills the front, and the rest keeps its bytes
-pub record-front : (event : ℕ) (p buf : List ℕ) → 32 ≤ length buf → sets buf 0 (flatten (fieldsOf event p)) ≡ flatten (fieldsOf event p) ++ drop 32 buf
+pub record-front : (event : ℕ) (p buf : List ℕ) → 32 ≤ length buf → sets buf 0 (flatten (logFields event p)) ≡ flatten (logFields event p) ++ drop 32 buf
 record-front event p buf h =
     let l = record-length event p in
-    let k : 0 + length (flatten (fieldsOf event p)) ≡ 32 = omega arith in
-    sets-eq (flatten (fieldsOf event p)) buf 0 (rw l h) ∙ ap (λ (k : ℕ). flatten (fieldsOf event p) ++ drop k buf) k
+    let k : 0 + length (flatten (logFields event p)) ≡ 32 = omega arith in
+    sets-eq (flatten (logFields event p)) buf 0 (rw l h) ∙ ap (λ (k : ℕ). flatten (logFields event p) ++ drop k buf) k
 
 module _ (event : ℕ) (p : List ℕ) (b0 : List ℕ) (room : 32 ≤ length b0) where
   -- the byte D4, stored behind the event number
@@ -42,10 +42,10 @@ module _ (event : ℕ) (p : List ℕ) (b0 : List ℕ) (room : 32 ≤ length b0) 
       (e7 : b7 ≡ written (intBytes 4 (shownOf (intAt 3 p 25))) b6 20)
       (e8 : b8 ≡ written (intBytes 4 (shownOf (intAt 3 p 31))) b7 24)
       (e9 : b9 ≡ written (intBytes 4 (intAt 3 p 43)) b8 28) where
-    pub record-laid : b9 ≡ sets b0 0 (flatten (fieldsOf event p))
-    unfolding laid fieldsOf bytesOf intBytes wholeOf
+    pub record-laid : b9 ≡ sets b0 0 (flatten (logFields event p))
+    unfolding laid logFields bytesOf intBytes wholeOf
     record-laid =
-        let fs = fieldsOf event p in
+        let fs = logFields event p in
         field _ (drop 9 fs) 28 b8 e9
         ∙ field _ (drop 8 fs) 24 b7 e8
         ∙ field _ (drop 7 fs) 20 b6 e7

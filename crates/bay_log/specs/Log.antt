@@ -18,8 +18,8 @@ unfoldable pub shownOf : ℤ → ℤ
 shownOf z = quotZ z (pos 100)
 
 -- the record's fields: event number, D4, raw total, launch speed, azimuth, elevation, carry, max height, backspin
-unfoldable pub fieldsOf : ℕ → List ℕ → List (List ℕ)
-fieldsOf event p =
+unfoldable pub logFields : ℕ → List ℕ → List (List ℕ)
+logFields event p =
     bytesOf 4 event
     ∷ (0xD4 ∷ [])
     ∷ intBytes 3 (wholeOf FlightResult p 0)
@@ -36,4 +36,4 @@ unfoldable pub logRule : ℕ → List ℕ → List ℕ → Told Unit × List ℕ
 logRule event p buf =
     cond (ltb (length p) 157) (no 7 (0xD4 ∷ 157 ∷ length p ∷ []), buf)
     (cond (ltb (length buf) 32) (no 8 (32 ∷ length buf ∷ []), buf)
-    (yes tt, sets buf 0 (flatten (fieldsOf event p))))
+    (yes tt, sets buf 0 (flatten (logFields event p))))

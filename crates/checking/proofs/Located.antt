@@ -9,7 +9,7 @@ use lib.ListN.{length, take, drop, getD, length-drop}
 use lib.Seq.{take-nil, drop-drop, take-take, getD-drop, length-take-le}
 use Rattle.error.specs.Refusal.{Told, yes, onYes}
 use Rattle.stuffing.specs.Stuff.{unescapeOf}
-use Rattle.unstuffing.specs.Unstuff.{unstuff, bytesOf, offsetAt}
+use Rattle.unstuffing.specs.Unstuff.{unstuff, offsetAt, unitBytes}
 use Rattle.unstuffing.specs.Proper.{Proper, none, byte, escape}
 use Rattle.unstuffing.proofs.Proper.{units, unstuff-proper, proper-of}
 use Rattle.encoding.specs.Wire.{Fields}
@@ -20,7 +20,7 @@ pub record Located (w : List ℕ) (f : Fields) : Type 0 where
   pub ordered : headOf w f .from ≤ headOf w f .to
   pub inside : headOf w f .to ≤ length w
   pub proper : Proper (take (headOf w f .to - headOf w f .from) (drop (headOf w f .from) w))
-  pub bytes : onYes bytesOf (unstuff 0 (take (headOf w f .to - headOf w f .from) (drop (headOf w f .from) w))) ≡ yes (f .payload)
+  pub bytes : onYes unitBytes (unstuff 0 (take (headOf w f .to - headOf w f .from) (drop (headOf w f .from) w))) ≡ yes (f .payload)
 
 -- ---- a proper string, cut behind so many unstuffed bytes
 
@@ -72,7 +72,7 @@ starts i p us k e h =
     ap (λ (v : ℕ × ℕ). v .1) (sym u) ∙ ap (λ (l : List (ℕ × ℕ)). offsetAt l 0) (sym e) ∙ first i p (omega (arith, ap length e, length-drop k us))
 
 -- its bytes, wherever it starts
-bytes-same : (i j : ℕ) {s : List ℕ} (p : Proper s) → bytesOf (units i p) ≡ bytesOf (units j p)
+bytes-same : (i j : ℕ) {s : List ℕ} (p : Proper s) → unitBytes (units i p) ≡ unitBytes (units j p)
 unfolding units
 bytes-same i j none = refl
 bytes-same i j (byte {b} g p) = ap (λ (l : List ℕ). b ∷ l) (bytes-same (i + 1) (j + 1) p)
@@ -80,8 +80,8 @@ bytes-same i j (escape {c = code} e g p) = ap (λ (l : List ℕ). unescapeOf cod
 
 -- ---- parts of lists
 
-bytes-part : (j k : ℕ) (us : List (ℕ × ℕ)) → bytesOf (take k (drop j us)) ≡ take k (drop j (bytesOf us))
-bytes-part (suc j) k [] = ap bytesOf (take-nil k) ∙ sym (take-nil k)
+bytes-part : (j k : ℕ) (us : List (ℕ × ℕ)) → unitBytes (take k (drop j us)) ≡ take k (drop j (unitBytes us))
+bytes-part (suc j) k [] = ap unitBytes (take-nil k) ∙ sym (take-nil k)
 bytes-part (suc j) k (u ∷ us) = bytes-part j k us
 bytes-part zero zero us = refl
 bytes-part zero (suc k) [] = refl
@@ -141,10 +141,10 @@ module _ (w : List ℕ) (f : Fields) (c : Checked w f) where
       let m : headOf w f .from ≡ 1 + a .at = omega (arith, from-is) in
       (λ i. take (n i) (drop (m i) w)) ∙ ap (take (b .at)) (sym (drop-drop (a .at) 1 w)) ∙ sym (part-of (a .at) (b .at) (length w - 2) (drop 1 w) ends)
 
-  bytes-are : bytesOf (units 0 (b .left)) ≡ f .payload
+  bytes-are : unitBytes (units 0 (b .left)) ≡ f .payload
   bytes-are =
       bytes-same 0 (0 + a .at) (b .left)
-      ∙ ap bytesOf (b .before ∙ ap (take (length us - 5)) (a .behind))
+      ∙ ap unitBytes (b .before ∙ ap (take (length us - 5)) (a .behind))
       ∙ bytes-part 3 (length us - 5) us
       ∙ ap payloadOf (sym us-is)
       ∙ sym (ap (λ (g : Fields). g .payload) (c .rest))
@@ -155,5 +155,5 @@ module _ (w : List ℕ) (f : Fields) (c : Checked w f) where
         ordered = omega (arith, from-is, to-is);
         inside = omega (arith, to-is, ends, c .long);
         proper = rw part-is (b .left);
-        bytes = rw part-is (ap (onYes bytesOf) (unstuff-proper 0 (b .left)) ∙ ap yes bytes-are);
+        bytes = rw part-is (ap (onYes unitBytes) (unstuff-proper 0 (b .left)) ∙ ap yes bytes-are);
       }

@@ -13,7 +13,7 @@ use Rattle.error.specs.Refusal.{Told, yes, no, onYes, andThen}
 use Rattle.addr.specs.declared.BusAddr.{BusAddr}
 use Rattle.addr.specs.Address.{addressRule}
 use Rattle.stuffing.specs.Stuff.{unescapeOf, sum16}
-use Rattle.unstuffing.specs.Unstuff.{after, unstuff, bytesOf, byteAt, offsetAt}
+use Rattle.unstuffing.specs.Unstuff.{after, unstuff, byteAt, offsetAt, unitBytes}
 use Rattle.unstuffing.specs.Proper.{Proper, none, byte, escape, kept, widthOf, valueOf}
 use Rattle.unstuffing.proofs.Proper.{units, unstuff-proper, isYes, proper-of, length-units, kept-most}
 use Rattle.unstuffing.proofs.Parting.{proper-append, kept-append, kept-none, unstuff-join, value-plain, FrontAt, front-at, cutOf, Back, back}
@@ -134,7 +134,7 @@ module _ (s : List ℕ) (p : Proper s) (three : 3 ≤ kept s) where
 
 -- ---- the two rules of the checksum and the head, by what precedes the checksum
 
-bytes-append : (a b : List (ℕ × ℕ)) → bytesOf (a ++ b) ≡ bytesOf a ++ bytesOf b
+bytes-append : (a b : List (ℕ × ℕ)) → unitBytes (a ++ b) ≡ unitBytes a ++ unitBytes b
 bytes-append [] b = refl
 bytes-append (u ∷ a) b = ap (λ (l : List ℕ). u .0 ∷ l) (bytes-append a b)
 
@@ -178,18 +178,18 @@ module _ (ub : List (ℕ × ℕ)) (hi at lo o : ℕ) (three : 3 ≤ length ub) w
   in-front : (k : ℕ) → k < 3 → getD us k (0, 0) ≡ getD ub k (0, 0)
   in-front k h = List·getD-append ub tail (0, 0) k (omega arith)
 
-  pub payload-is : payloadOf us ≡ drop 3 (bytesOf ub)
+  pub payload-is : payloadOf us ≡ drop 3 (unitBytes ub)
   payload-is =
-      let m : bytesOf us ≡ bytesOf ub ++ (hi ∷ lo ∷ []) = bytes-append ub tail in
-      let d : drop 3 (bytesOf us) ≡ drop 3 (bytesOf ub) ++ (hi ∷ lo ∷ []) = rw m (drop-append-le 3 (bytesOf ub) (hi ∷ lo ∷ []) (rw (length-map ub (λ (u : ℕ × ℕ). u .0)) three)) in
+      let m : unitBytes us ≡ unitBytes ub ++ (hi ∷ lo ∷ []) = bytes-append ub tail in
+      let d : drop 3 (unitBytes us) ≡ drop 3 (unitBytes ub) ++ (hi ∷ lo ∷ []) = rw m (drop-append-le 3 (unitBytes ub) (hi ∷ lo ∷ []) (rw (length-map ub (λ (u : ℕ × ℕ). u .0)) three)) in
       rw d
-      (take-at (drop 3 (bytesOf ub)) (hi ∷ lo ∷ []) (length us - 5)
-      (omega (arith, length-drop 3 (bytesOf ub), length-map ub (λ (u : ℕ × ℕ). u .0), length-us)))
+      (take-at (drop 3 (unitBytes ub)) (hi ∷ lo ∷ []) (length us - 5)
+      (omega (arith, length-drop 3 (unitBytes ub), length-map ub (λ (u : ℕ × ℕ). u .0), length-us)))
 
   pub head-is : (n : ℕ) → n ≡ length ub - 3 → onYes (headAt us) (addressesRule us) ≡ frontRule n at ub
   unfolding addressesRule frontRule
   head-is n e =
-      let p : length (payloadOf us) ≡ n = ap length payload-is ∙ omega (arith, length-drop 3 (bytesOf ub), length-map ub (λ (u : ℕ × ℕ). u .0)) in
+      let p : length (payloadOf us) ≡ n = ap length payload-is ∙ omega (arith, length-drop 3 (unitBytes ub), length-map ub (λ (u : ℕ × ℕ). u .0)) in
       let d = in-front 0 (omega arith) in
       let s = in-front 1 (omega arith) in
       let y = in-front 2 (omega arith) in

@@ -9,7 +9,7 @@ use Rattle.error.specs.Refusal.{Told, yes, no, refused, andThen}
 use Rattle.addr.specs.declared.BusAddr.{BusAddr}
 use Rattle.addr.specs.Address.{addressRule}
 use Rattle.stuffing.specs.Stuff.{sum16}
-use Rattle.unstuffing.specs.Unstuff.{unstuff, bytesOf, byteAt, offsetAt}
+use Rattle.unstuffing.specs.Unstuff.{unstuff, byteAt, offsetAt, unitBytes}
 use Rattle.encoding.specs.Wire.{Fields, fields}
 use Rattle.checking.specs.declared.Head.{Head}
 use Rattle.checking.specs.declared.ResultHead.{ResultHead}
@@ -27,7 +27,7 @@ abbrev pub computedOf : List ℕ → List (ℕ × ℕ) → ℕ
 computedOf inner us = sum16 (take (offsetAt us (length us - 2)) inner)
 
 abbrev pub payloadOf : List (ℕ × ℕ) → List ℕ
-payloadOf us = take (length us - 5) (drop 3 (bytesOf us))
+payloadOf us = take (length us - 5) (drop 3 (unitBytes us))
 
 -- DEST, then SRC (6)
 unfoldable pub addressesRule : List (ℕ × ℕ) → Told Fields

@@ -11,7 +11,7 @@ use Rattle.layout.specs.Layout.{row}
 use Rattle.numbers.specs.declared.Message.{Message}
 use Rattle.numbers.specs.declared.Message.the-variants as message
 use Rattle.numbers.specs.Numbers.{shapeOf, countOf, ruleOf}
-use Rattle.numbers.specs.Asked.{Number, whole, shownBy, numberOf, fieldRule}
+use Rattle.numbers.specs.Asked.{Number, whole, shownBy, fieldRule, numberAt}
 use Rattle.flight.specs.declared.flight_result.ResultFlightResult.{ResultFlightResult}
 use Rattle.flight.specs.declared.flight_result_v1.ResultFlightResultV1.{ResultFlightResultV1}
 use Rattle.flight.specs.declared.club_result.ResultClubResult.{ResultClubResult}
@@ -22,8 +22,8 @@ use Rattle.flight.specs.ClubResultFields.{clubResult, clubResultNumbers,
 use Rattle.flight.proofs.Row.{row-at}
 
 -- the numbers of a message, each whole or as a figure, by number
-abbrev shown : Message → Numbers → ℕ → Number
-shown m n k = shownBy (ruleOf m k) (n .whole k) (n .figure k)
+abbrev numbered : Message → Numbers → ℕ → Number
+numbered m n k = shownBy (ruleOf m k) (n .whole k) (n .figure k)
 
 module _ {A : Type 0} (m : Message) (p : List ℕ) (l : shapeOf m .least ≤ length p) where
   decoded : (fill : Numbers → A) (w : Told Unit × A) → w ≡ decodeRule m fill p → w .1 ≡ fill (numbersOf m p)
@@ -31,19 +31,19 @@ module _ {A : Type 0} (m : Message) (p : List ℕ) (l : shapeOf m .least ≤ len
   decoded fill w e = ap (λ (v : Told Unit × A). v .1) (rw (le-ltb (length p) (shapeOf m .least) l) at e)
 
 module _ (m : Message) (p : List ℕ) (l : shapeOf m .least ≤ length p) (n : ℕ) (h : n < countOf m) where
-  asked : fieldRule m p n ≡ yes (numberOf m p n)
+  asked : fieldRule m p n ≡ yes (numberAt m p n)
   unfolding fieldRule
   asked = simp (le-ltb (length p) (shapeOf m .least) l, lt-ltb n (countOf m) h)
 
   -- for any record that lists its numbers again
   pub by-number : {A : Type 0} (fill : Numbers → A) (numbers : A → List Number)
-      → ((N : Numbers) → numbers (fill N) ≡ row (countOf m) (shown m N))
+      → ((N : Numbers) → numbers (fill N) ≡ row (countOf m) (numbered m N))
       → (w : Told Unit × A) → w ≡ decodeRule m fill p → fieldRule m p n ≡ yes (getD (numbers (w .1)) n (whole (pos 0)))
-  unfolding numberOf
+  unfolding numberAt
   by-number fill numbers again w e =
       asked
       ∙ ap yes (sym (ap (λ (k : List Number). getD k n (whole (pos 0))) (ap numbers (decoded m p l fill w e) ∙ again (numbersOf m p))
-      ∙ row-at (countOf m) (shown m (numbersOf m p)) (whole (pos 0)) n h))
+      ∙ row-at (countOf m) (numbered m (numbersOf m p)) (whole (pos 0)) n h))
 
 module _ (p : List ℕ) (n : ℕ) where
   pub flight-result : 157 ≤ length p → n < 52 → (r : ResultFlightResult) → toldFlightResult r ≡ decodeRule message.FlightResult flightResult p

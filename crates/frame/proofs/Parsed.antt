@@ -8,7 +8,7 @@ use lib.Dec.{ltb}
 use lib.ListN.{length, take, drop, length-map}
 use borrow.Author.Tests.{ltb-false}
 use Rattle.error.specs.Refusal.{Told, yes, no, onYes}
-use Rattle.unstuffing.specs.Unstuff.{bytesOf}
+use Rattle.unstuffing.specs.Unstuff.{unitBytes}
 use Rattle.unstuffing.specs.Proper.{kept}
 use Rattle.unstuffing.proofs.Proper.{units, unstuff-proper, length-units}
 use Rattle.checking.specs.declared.Head.{Head}
@@ -53,8 +53,8 @@ pub record Held (w : List ℕ) (h : Head) : Type 0 where
 held-by : (w : List ℕ) (f : Fields) → checkRule w ≡ yes f → Located w f → Held w (headOf w f)
 held-by w f e l =
     let p = l .proper in
-    let q : yes (bytesOf (units 0 p)) ≡ yes (f .payload) = sym (ap (onYes bytesOf) (unstuff-proper 0 p)) ∙ l .bytes in
-    let b : bytesOf (units 0 p) ≡ f .payload = cc in
+    let q : yes (unitBytes (units 0 p)) ≡ yes (f .payload) = sym (ap (onYes unitBytes) (unstuff-proper 0 p)) ∙ l .bytes in
+    let b : unitBytes (units 0 p) ≡ f .payload = cc in
     let n : kept (partOf w (headOf w f)) ≡ length (f .payload) = sym (length-units 0 p) ∙ sym (length-map (units 0 p) (λ (u : ℕ × ℕ). u .0)) ∙ ap length b in
     record {
       value = f;

@@ -13,14 +13,14 @@ use lib.Seq.{sets, sets-eq, length-take-le, take-all, getD-drop, drop-drop, take
 use borrow.Author.Tests.{eq-eqb, ne-eqb, le-leb}
 use Rattle.general.proofs.Cases.{by-test, by-eq}
 use Rattle.stuffing.specs.Stuff.{unescapeOf}
-use Rattle.unstuffing.specs.Unstuff.{bytesOf}
+use Rattle.unstuffing.specs.Unstuff.{unitBytes}
 use Rattle.unstuffing.specs.Proper.{Proper, none, byte, escape, kept}
 use Rattle.unstuffing.proofs.Proper.{units, code-other, kept-most}
 use Rattle.frame.specs.Walk.{standsFor, raw, slots}
 
 -- ---- what is written
 
-pub raw-proper : (i q : ℕ) → (q ≡ 0xFD → ⊥) → {l : List ℕ} (p : Proper l) → raw q l ≡ bytesOf (units i p)
+pub raw-proper : (i q : ℕ) → (q ≡ 0xFD → ⊥) → {l : List ℕ} (p : Proper l) → raw q l ≡ unitBytes (units i p)
 unfolding units
 raw-proper i q h none = refl
 raw-proper i q h (byte {b} {l} g p) = rw (ne-eqb b 0xFD g, ne-eqb q 0xFD h) (ap (λ (r : List ℕ). b ∷ r) (raw-proper (i + 1) b g p))

@@ -11,7 +11,7 @@ use borrow.Author.Tests.{lt-ltb, le-ltb}
 use Rattle.general.proofs.Table.{at}
 use Rattle.numbers.specs.declared.Message.{Message}
 use Rattle.numbers.specs.declared.Message.the-variants.{FlightResult, FlightResultV1, ClubResult}
-use Rattle.numbers.specs.Numbers.{shapeOf, countOf, ruleOf, codeOf}
+use Rattle.numbers.specs.Numbers.{shapeOf, countOf, ruleOf, ruleCode}
 
 abbrev pub divisors : List ℕ
 divisors =
@@ -23,9 +23,9 @@ divisors =
 codeAt : ℕ → ℕ
 unfolding ruleOf
 codeAt k =
-    cond (ltb k 52) (codeOf (ruleOf FlightResult k))
-    (cond (ltb k 83) (codeOf (ruleOf FlightResultV1 (k - 52)))
-    (codeOf (ruleOf ClubResult (k - 83))))
+    cond (ltb k 52) (ruleCode (ruleOf FlightResult k))
+    (cond (ltb k 83) (ruleCode (ruleOf FlightResultV1 (k - 52)))
+    (ruleCode (ruleOf ClubResult (k - 83))))
 
 right : ℕ → ℕ → Bool
 unfolding codeAt
@@ -40,7 +40,7 @@ inside FlightResult n h = omega arith
 inside FlightResultV1 n h = omega arith
 inside ClubResult n h = omega arith
 
-pub listed : (m : Message) (n : ℕ) → n < countOf m → getD divisors (shapeOf m .first + n) 0 ≡ codeOf (ruleOf m n)
+pub listed : (m : Message) (n : ℕ) → n < countOf m → getD divisors (shapeOf m .first + n) 0 ≡ ruleCode (ruleOf m n)
 unfolding codeAt
 listed FlightResult n h =
     let g : 0 + n ≡ n = omega arith in

@@ -13,7 +13,7 @@ use borrow.Author.Tests.{eq-eqb, ne-eqb, ltb-true, ltb-false}
 use Rattle.integer.specs.Fields.{scaledBy}
 use Rattle.numbers.specs.declared.Message.{Message}
 use Rattle.numbers.specs.declared.Message.the-variants.{FlightResult, FlightResultV1, ClubResult}
-use Rattle.numbers.specs.Numbers.{shapeOf, countOf, atLeastOne, Rule, count, hundredths, thousandths, millionths, scaled, divisorOf, codeOf, entryOf}
+use Rattle.numbers.specs.Numbers.{shapeOf, countOf, atLeastOne, Rule, count, hundredths, thousandths, millionths, scaled, divisorOf, entryOf, ruleCode}
 use Rattle.general.specs.Number.{nonzero}
 use Rattle.numbers.specs.Asked.{shownBy, whole, figure}
 
@@ -49,14 +49,14 @@ small ClubResult = omega arith
 
 -- ---- an entry of the list
 
-pub counted : (r : Rule) (z : ℤ) (x : Float) → codeOf r ≡ 0 → shownBy r z x ≡ whole z
+pub counted : (r : Rule) (z : ℤ) (x : Float) → ruleCode r ≡ 0 → shownBy r z x ≡ whole z
 counted count z x e = refl
 counted hundredths z x e = absurd (omega arith)
 counted thousandths z x e = absurd (omega arith)
 counted millionths z x e = absurd (omega arith)
 counted scaled z x e = absurd (omega arith)
 
-pub divided : (r : Rule) (z : ℤ) (s : Float) → (codeOf r ≡ 0 → ⊥) → shownBy r z (scaledBy (divisorOf r s) z) ≡ figure (scaledBy (entryOf (codeOf r) s) z)
+pub divided : (r : Rule) (z : ℤ) (s : Float) → (ruleCode r ≡ 0 → ⊥) → shownBy r z (scaledBy (divisorOf r s) z) ≡ figure (scaledBy (entryOf (ruleCode r) s) z)
 divided count z s e = absurd (e refl)
 divided hundredths z s e = refl
 divided thousandths z s e = refl

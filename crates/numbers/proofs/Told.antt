@@ -10,8 +10,8 @@ use Rattle.error.specs.Refusal.{Told, yes, no}
 use Rattle.integer.specs.Fields.{scaledBy}
 use Rattle.numbers.specs.declared.Message.{Message}
 use Rattle.numbers.specs.declared.Shape.{Shape}
-use Rattle.numbers.specs.Numbers.{shapeOf, ruleOf, codeOf, entryOf, wholeOf, scaleOf, figureOf}
-use Rattle.numbers.specs.Asked.{whole, figure, numberOf, fieldRule}
+use Rattle.numbers.specs.Numbers.{shapeOf, ruleOf, entryOf, wholeOf, scaleOf, figureOf, ruleCode}
+use Rattle.numbers.specs.Asked.{whole, figure, fieldRule, numberAt}
 use Rattle.numbers.proofs.Laws.{counted, divided}
 
 module _ (m : Message) (p : List ℕ) (n : ℕ) (s : Shape) (e : s ≡ shapeOf m) where
@@ -25,16 +25,16 @@ module _ (m : Message) (p : List ℕ) (n : ℕ) (s : Shape) (e : s ≡ shapeOf m
     told-none h = simp (le-ltb (length p) (shapeOf m .least) (rw e at l), le-ltb n (shapeOf m .count) (rw e at h))
 
     module _ (h : n < s .count) where
-      told-some : yes (numberOf m p n) ≡ fieldRule m p n
+      told-some : yes (numberAt m p n) ≡ fieldRule m p n
       unfolding fieldRule
       told-some = simp (le-ltb (length p) (shapeOf m .least) (rw e at l), lt-ltb n (shapeOf m .count) (rw e at h))
 
-      module _ (d : ℕ) (q : d ≡ codeOf (ruleOf m n)) where
+      module _ (d : ℕ) (q : d ≡ ruleCode (ruleOf m n)) where
         pub told-count : d ≡ 0 → yes (whole (wholeOf m p n)) ≡ fieldRule m p n
-        unfolding numberOf
+        unfolding numberAt
         told-count t = ap yes (sym (counted (ruleOf m n) (wholeOf m p n) (figureOf m p n) (sym q ∙ t))) ∙ told-some
 
         pub told-figure : (d ≡ 0 → ⊥) → yes (figure (scaledBy (entryOf d (scaleOf m p)) (wholeOf m p n))) ≡ fieldRule m p n
-        unfolding numberOf figureOf
+        unfolding numberAt figureOf
         told-figure t =
             rw q (ap yes (sym (divided (ruleOf m n) (wholeOf m p n) (scaleOf m p) (λ w. t (q ∙ w)))) ∙ told-some)

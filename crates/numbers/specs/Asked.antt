@@ -32,10 +32,10 @@ shownBy millionths z x = figure x
 shownBy scaled z x = figure x
 
 -- number n of a message
-unfoldable pub numberOf : Message → List ℕ → ℕ → Number
-numberOf m p n = shownBy (ruleOf m n) (wholeOf m p n) (figureOf m p n)
+unfoldable pub numberAt : Message → List ℕ → ℕ → Number
+numberAt m p n = shownBy (ruleOf m n) (wholeOf m p n) (figureOf m p n)
 
 unfoldable pub fieldRule : Message → List ℕ → ℕ → Told Number
 fieldRule m p n =
     cond (ltb (length p) (shapeOf m .least)) (no 7 (shapeOf m .kind ∷ shapeOf m .least ∷ length p ∷ []))
-    (cond (ltb n (countOf m)) (yes (numberOf m p n)) (no 11 (n ∷ [])))
+    (cond (ltb n (countOf m)) (yes (numberAt m p n)) (no 11 (n ∷ [])))

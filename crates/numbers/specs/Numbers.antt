@@ -89,12 +89,12 @@ figureOf m p n = scaledBy (divisorOf (ruleOf m n) (scaleOf m p)) (wholeOf m p n)
 -- ---- the list of divisors
 
 -- how the list writes a rule: 0 for a count, 1 for the scale
-abbrev pub codeOf : Rule → ℕ
-codeOf count = 0
-codeOf hundredths = 100
-codeOf thousandths = 1000
-codeOf millionths = 1000000
-codeOf scaled = 1
+abbrev pub ruleCode : Rule → ℕ
+ruleCode count = 0
+ruleCode hundredths = 100
+ruleCode thousandths = 1000
+ruleCode millionths = 1000000
+ruleCode scaled = 1
 
 -- the divisor that an entry of the list stands for
 abbrev pub entryOf : ℕ → Float → Float

@@ -3,7 +3,7 @@
 ghost use mathlib.Core.Path.{_≡_};
 ghost use Prim.Native.Nat.{_<_};
 ghost use Rattle.integer.specs.Fields.{scaledBy};
-ghost use Rattle.numbers.specs.Numbers.{shapeOf, countOf, wholeOf, ruleOf, codeOf, entryOf, float, scaleRule};
+ghost use Rattle.numbers.specs.Numbers.{shapeOf, countOf, wholeOf, ruleOf, entryOf, float, scaleRule, ruleCode};
 ghost use Rattle.numbers.specs.Asked.{toldField, fieldRule};
 
 mod table;
@@ -121,7 +121,7 @@ pub fn figure(number: i32, divisor: u32, scale: f64) -> f64
 // The list's entry for a number of a message.
 fn divisor(message: Message, number: usize) -> u32
     requires { ⌜ number < countOf message ⌝ }
-    ensures { λ r. ⌜ r ≡ codeOf (ruleOf message number) ⌝ }
+    ensures { λ r. ⌜ r ≡ ruleCode (ruleOf message number) ⌝ }
 {
     let shape = shape_of(message);
     let first = shape.first;

@@ -10,7 +10,7 @@ use lib.ListN.{length, set, length-append}
 use borrow.Author.Tests.{le-leb, lt-leb}
 use Rattle.error.specs.Refusal.{Told, yes, no}
 use Rattle.report.specs.Text.{decimalOf, hexOf}
-use Rattle.report.specs.Line.{spaced, saidOf, fitted, frameText, longText, endText, Lined}
+use Rattle.report.specs.Line.{spaced, fitted, frameText, longText, endText, Lined, resultWords}
 use Rattle.report.specs.Put.{Put}
 use Rattle.frame.specs.declared.RawFrame.{RawFrame}
 use Rattle.addr.specs.Address.{byteOf}
@@ -72,20 +72,20 @@ abbrev pub fieldsText : RawFrame → List ℕ
 fieldsText f = spaced (hexOf (byteOf (f .dest)) ∷ hexOf (byteOf (f .src)) ∷ hexOf (f .«type_id») ∷ decimalOf (f .len) ∷ [])
 
 -- how long the words are that say what parsing said
-pub ok-width : (f : RawFrame) → length (decimalOf (f .len)) + 13 ≡ length (spaced (saidOf (yes f)))
+pub ok-width : (f : RawFrame) → length (decimalOf (f .len)) + 13 ≡ length (spaced (resultWords (yes f)))
 unfolding hexOf
 ok-width f = simp length-append (omega arith)
 
-pub no-width : (k : ℕ) (vs : List ℕ) → length (decimalOf k) + length (valuesText vs) + 4 ≡ length (spaced (saidOf (no k vs)))
+pub no-width : (k : ℕ) (vs : List ℕ) → length (decimalOf k) + length (valuesText vs) + 4 ≡ length (spaced (resultWords (no k vs)))
 no-width k vs = simp length-append (omega arith)
 
 module _ (n len : ℕ) (told : Told RawFrame) where
   abbrev pub frameFront : List ℕ
-  frameFront = decimalOf n ++ ((0x20 ∷ decimalOf len) ++ spaced (saidOf told))
+  frameFront = decimalOf n ++ ((0x20 ∷ decimalOf len) ++ spaced (resultWords told))
 
   pub frame-parts : frameFront ++ (0x0A ∷ []) ≡ frameText n len told
   unfolding frameText
-  frame-parts = append-assoc (decimalOf n) ((0x20 ∷ decimalOf len) ++ spaced (saidOf told)) (0x0A ∷ [])
+  frame-parts = append-assoc (decimalOf n) ((0x20 ∷ decimalOf len) ++ spaced (resultWords told)) (0x0A ∷ [])
 
-  pub frame-length : length (decimalOf n) + length (decimalOf len) + length (spaced (saidOf told)) + 2 ≡ length (frameText n len told)
+  pub frame-length : length (decimalOf n) + length (decimalOf len) + length (spaced (resultWords told)) + 2 ≡ length (frameText n len told)
   frame-length = rw (← frame-parts) (simp length-append (omega arith))

@@ -21,13 +21,13 @@ abbrev pub lineOf : List ℕ → List (List ℕ) → List ℕ
 lineOf w ws = w ++ (spaced ws ++ (0x0A ∷ []))
 
 -- `OK`, DEST, SRC, TYPE and the payload's length; or `NO`, the refusal's number and its values
-abbrev pub saidOf : Told RawFrame → List (List ℕ)
-saidOf (yes f) = (0x4F ∷ 0x4B ∷ []) ∷ hexOf (byteOf (f .dest)) ∷ hexOf (byteOf (f .src)) ∷ hexOf (f .«type_id») ∷ decimalOf (f .len) ∷ []
-saidOf (no k vs) = (0x4E ∷ 0x4F ∷ []) ∷ decimalOf k ∷ map decimalOf vs
+abbrev pub resultWords : Told RawFrame → List (List ℕ)
+resultWords (yes f) = (0x4F ∷ 0x4B ∷ []) ∷ hexOf (byteOf (f .dest)) ∷ hexOf (byteOf (f .src)) ∷ hexOf (f .«type_id») ∷ decimalOf (f .len) ∷ []
+resultWords (no k vs) = (0x4E ∷ 0x4F ∷ []) ∷ decimalOf k ∷ map decimalOf vs
 
 -- event number, wire length, and what parsing said
 unfoldable pub frameText : ℕ → ℕ → Told RawFrame → List ℕ
-frameText n len told = lineOf (decimalOf n) (decimalOf len ∷ saidOf told)
+frameText n len told = lineOf (decimalOf n) (decimalOf len ∷ resultWords told)
 
 -- N - LONG
 unfoldable pub longText : ℕ → List ℕ

@@ -10,7 +10,7 @@ ghost use Rattle.error.specs.Result.{toldUsize};
 ghost use Rattle.addr.specs.Address.{byteOf};
 ghost use Rattle.frame.specs.Rule.{toldRawFrame};
 ghost use Rattle.report.specs.Text.{hexDigit, decimalOf, hexOf};
-ghost use Rattle.report.specs.Line.{spaced, saidOf, frameText, longText, endText, Lined};
+ghost use Rattle.report.specs.Line.{spaced, frameText, longText, endText, Lined, resultWords};
 ghost use Rattle.report.specs.Put.{Put};
 use error::ResultUsize;
 use error::WireError;
@@ -69,7 +69,7 @@ pub fn end_line(count: usize, skipping: bool, out: &mut [u8]) -> ResultUsize
 
 // How long the words of what parsing said are, each with a space before it.
 fn said_width(parsed: ResultRawFrame) -> usize
-    ensures { λ r. ⌜ (r ≡ length (spaced (saidOf (toldRawFrame parsed)))) × (r ≤ 70) ⌝ }
+    ensures { λ r. ⌜ (r ≡ length (spaced (resultWords (toldRawFrame parsed)))) × (r ≤ 70) ⌝ }
 {
     match parsed {
         ResultRawFrame::Ok(frame) => digits(frame.len as u64) + 13,
@@ -79,8 +79,8 @@ fn said_width(parsed: ResultRawFrame) -> usize
 
 // The words of what parsing said, each with a space before it.
 fn put_said(parsed: ResultRawFrame, out: &mut [u8], at: usize) -> usize
-    requires { ⌜ at + length (spaced (saidOf (toldRawFrame parsed))) ≤ length (now out) ⌝ }
-    ensures { λ r. ⌜ Put (spaced (saidOf (toldRawFrame parsed))) (now (out .entry)) at r (now (out .exit)) ⌝ }
+    requires { ⌜ at + length (spaced (resultWords (toldRawFrame parsed))) ≤ length (now out) ⌝ }
+    ensures { λ r. ⌜ Put (spaced (resultWords (toldRawFrame parsed))) (now (out .entry)) at r (now (out .exit)) ⌝ }
 {
     match parsed {
         ResultRawFrame::Ok(frame) => {

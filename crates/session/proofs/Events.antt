@@ -15,7 +15,7 @@ use Rattle.splitter.specs.Feed.{shown as shownFed}
 use Rattle.stream.specs.Stream.{Said, saidOf}
 use Rattle.session.specs.declared.Step.{Step}
 use Rattle.session.specs.Lines.{lineTo, numberTo}
-use Rattle.session.specs.Piece.{Stage, stage, fed, said, textOf, stageAfter, payloadTo}
+use Rattle.session.specs.Piece.{Stage, stage, fed, said, stageAfter, payloadTo, eventText}
 use Rattle.session.specs.Event.{countOf, Wrote, Stepped}
 
 pub wrote : (text old : List ℕ) (told : Told ℕ) (new : List ℕ) → Lined text old told new → 128 ≤ length old → Wrote text old (countOf told) new
@@ -36,11 +36,11 @@ pub stepped :
     → (w : ℕ) (p′ new : List ℕ) → p′ ≡ payloadTo (t .payload) a → Wrote (lineTo (length (t .payload)) (t .session .number) a) out w new
     → Stepped t c out (record { session = record { splitter = f .splitter; number = numberTo (t .session .number) a }; taken = f .taken; written = w }) h′ p′ new
 stepped t c out f h′ e a s w p′ new k l =
-    let q : a ≡ said t c = sym s ∙ ap (λ (g : Given). saidOf c (g .held) (g .answer)) e in
+    let q : a ≡ said t c = sym s ∙ ap (λ (g : Given). saidOf c (g .hold) (g .answer)) e in
     record {
       taken = ap (λ (g : Given). g .taken) e;
       after =
-          λ i. stage (record { splitter = e i .state; number = numberTo (t .session .number) (q i) }) (e i .held) ((k ∙ ap (payloadTo (t .payload)) q) i);
+          λ i. stage (record { splitter = e i .state; number = numberTo (t .session .number) (q i) }) (e i .hold) ((k ∙ ap (payloadTo (t .payload)) q) i);
       line = rw q at l;
     }
 

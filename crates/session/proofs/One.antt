@@ -8,13 +8,13 @@ use Rattle.error.specs.Refusal.{Told}
 use Rattle.error.proofs.Decides.{one-usize}
 use Rattle.session.specs.declared.Session.{Session}
 use Rattle.session.specs.declared.Ran.{Ran}
-use Rattle.session.specs.Piece.{Stage, Done, shown, pieceRule, frontOf}
+use Rattle.session.specs.Piece.{Stage, Done, pieceRule, frontOf, doneBy}
 
 pub one-new : {x : Session} (r s : Session) → r ≡ x → s ≡ x → r ≡ s
 one-new r s p q = p ∙ sym q
 
 -- `Session::piece`: r, h, p and o are a reply and the buffers at exit, and so are r′, h′, p′ and o′
-pub one-ran : (t : Stage) (c out : List ℕ) (r r′ : Ran) (h h′ p p′ o o′ : List ℕ) → shown r h p o ≡ pieceRule t c out → shown r′ h′ p′ o′ ≡ pieceRule t c out
+pub one-ran : (t : Stage) (c out : List ℕ) (r r′ : Ran) (h h′ p p′ o o′ : List ℕ) → doneBy r h p o ≡ pieceRule t c out → doneBy r′ h′ p′ o′ ≡ pieceRule t c out
     → (r ≡ r′) × (h ≡ h′) × (p ≡ p′) × (o ≡ o′)
 one-ran t c out r r′ h h′ p p′ o o′ e e′ =
     let q = e ∙ sym e′ in

@@ -14,12 +14,12 @@ use Rattle.error.specs.Refusal.{yes}
 use Rattle.general.proofs.Cases.{by-test}
 use Rattle.splitter.specs.declared.FrameSplitter.{FrameSplitter}
 use Rattle.search.specs.First.{firstFrom}
-use Rattle.splitter.specs.Feed.{feedRule, runs, ends, goesOn, isBad, isOpen, isKept, startIn, total}
+use Rattle.splitter.specs.Feed.{feedRule, runs, ends, goesOn, isBad, isOpen, isKept, startIn, lengthWith}
 use Rattle.splitter.proofs.Laws.{kept-is}
 use Rattle.stream.proofs.Ends.{feed-within, feed-moves}
 use Rattle.session.specs.declared.Session.{Session}
 use Rattle.session.specs.declared.Step.{Step}
-use Rattle.session.specs.Piece.{Stage, stage, fed, textOf, stageAfter, Work, work, behind, works, Done, done, allLines}
+use Rattle.session.specs.Piece.{Stage, stage, fed, stageAfter, Work, work, behind, works, Done, done, allLines, eventText}
 use Rattle.session.specs.Event.{Wrote, Stepped}
 
 -- a state that is not refused gives one that is not refused
@@ -45,7 +45,7 @@ unfolding works
 works-end zero t = refl
 works-end (suc k) t = refl
 
-works-step : (k : ℕ) (t : Stage) (c : List ℕ) → 0 < length c → works (suc k) t c ≡ behind (textOf t c) (works k (stageAfter t c) (drop (fed t c .taken) c))
+works-step : (k : ℕ) (t : Stage) (c : List ℕ) → 0 < length c → works (suc k) t c ≡ behind (eventText t c) (works k (stageAfter t c) (drop (fed t c .taken) c))
 unfolding works
 works-step k t [] h = absurd (not-suc-le-zero h)
 works-step k t (b ∷ c) h = refl
@@ -115,18 +115,18 @@ module _ (t₀ : Stage) (c out₀ : List ℕ) where
           let l : r .taken ≤ length c - at = rw (← length-drop at c, s .taken) (feed-within (t .session .splitter) (t .hold) (drop at c)) in
           omega arith
 
-      more : (k : ℕ) → g .calls ≡ suc k → works (length c) t₀ c ≡ behind (g .text ++ textOf t (drop at c)) (works k (stage (r .session) hold payload) (drop (at + r .taken) c))
+      more : (k : ℕ) → g .calls ≡ suc k → works (length c) t₀ c ≡ behind (g .text ++ eventText t (drop at c)) (works k (stage (r .session) hold payload) (drop (at + r .taken) c))
       more k e =
           g .rest
           ∙ ap (λ (n : ℕ). behind (g .text) (works n t (drop at c))) e
           ∙ ap (behind (g .text)) (works-step k t (drop at c) some)
           ∙ rw (← s .after, ← s .taken, drop-drop (r .taken) at c)
-          (ap (λ (l : List ℕ). work l (works k (stage (r .session) hold payload) (drop (at + r .taken) c) .stage)) (sym (append-assoc (g .text) (textOf t (drop at c)) (works k (stage (r .session) hold payload) (drop (at + r .taken) c) .text))))
+          (ap (λ (l : List ℕ). work l (works k (stage (r .session) hold payload) (drop (at + r .taken) c) .stage)) (sym (append-assoc (g .text) (eventText t (drop at c)) (works k (stage (r .session) hold payload) (drop (at + r .taken) c) .text))))
 
       -- the part of the buffer that was lent comes back
-      lent : (k : ℕ) → length out ≤ written + k → take written out ++ (new ++ drop k (drop written out)) ≡ (g .text ++ textOf t (drop at c)) ++ drop (length (g .text ++ textOf t (drop at c))) out₀
+      lent : (k : ℕ) → length out ≤ written + k → take written out ++ (new ++ drop k (drop written out)) ≡ (g .text ++ eventText t (drop at c)) ++ drop (length (g .text ++ eventText t (drop at c))) out₀
       lent k l =
-          let x = textOf t (drop at c) in
+          let x = eventText t (drop at c) in
           let past : length (drop written out) ≤ k = simp length-drop (omega arith) in
           let none : drop k (drop written out) ≡ [] = drop-of-length-le (drop written out) past in
           rw (none, append-nil, front, s .line .bytes, back, drop-drop (length x) (length (g .text)) out₀, length-append, append-assoc)
@@ -139,7 +139,7 @@ module _ (t₀ : Stage) (c out₀ : List ℕ) where
           with-calls : (n : ℕ) → g .calls ≡ n → Going (stage (r .session) hold payload) (at + r .taken) (written + r .written) (take written out ++ (new ++ drop k (drop written out)))
           with-calls zero e = absurd (let q : ⊥ = omega (arith, g .enough) in q)
           with-calls (suc m) e =
-              let x = textOf t (drop at c) in
+              let x = eventText t (drop at c) in
               let n : length (g .text ++ x) ≡ length (g .text) + length x = length-append (g .text) x in
               record {
                 text = g .text ++ x;

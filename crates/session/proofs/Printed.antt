@@ -28,8 +28,8 @@ use Rattle.stream.proofs.Rust.{as-the-rust}
 use Rattle.report.specs.Line.{endText, fitted, Lined}
 use Rattle.session.specs.declared.Ran.{Ran}
 use Rattle.session.specs.Lines.{lineTo, numberTo, linesOf}
-use Rattle.session.specs.Piece.{Stage, stage, fed, said, textOf, payloadTo, stageAfter, Work, work, behind, works, roomFor, shown, pieceRule, frontOf}
-use Rattle.session.specs.Program.{first, runs, printed}
+use Rattle.session.specs.Piece.{Stage, stage, fed, said, payloadTo, stageAfter, Work, work, behind, works, roomFor, pieceRule, frontOf, doneBy, eventText}
+use Rattle.session.specs.Program.{first, printed, allPieces}
 use Rattle.session.proofs.Rules.{piece-fits}
 
 -- the payload buffer keeps its length: a payload that is answered fits it
@@ -72,7 +72,7 @@ line-shown {text} {old} l h =
 
 -- of a piece that is not refused, its lines
 pub piece-shown :
-    (t : Stage) (c out : List ℕ) (r : Ran) (h p new : List ℕ) → shown r h p new ≡ pieceRule t c out
+    (t : Stage) (c out : List ℕ) (r : Ran) (h p new : List ℕ) → doneBy r h p new ≡ pieceRule t c out
     → isBad (t .session .splitter) (length (t .hold)) ≡ false → roomFor (length c) ≤ length out → frontOf (toldUsize (r .reply)) new ≡ works (length c) t c .text
 piece-shown t c out r h p new e good room =
     let q = e ∙ sym (piece-fits t c out good room) in
@@ -88,13 +88,13 @@ record Traced (t : Stage) (cs : List (List ℕ)) (w : Work) : Type 0 where
 
 -- all pieces after this one, from any state that stands for some open bytes
 abbrev Rest : List (List ℕ) → Type 0
-Rest cs = (t : Stage) (v : List ℕ) → Stands (t .session .splitter) (t .hold) v → Traced t cs (runs t cs)
+Rest cs = (t : Stage) (v : List ℕ) → Stands (t .session .splitter) (t .hold) v → Traced t cs (allPieces t cs)
 
 past : {t : Stage} {cs : List (List ℕ)} {w : Work} → Traced t cs w → Traced t ([] ∷ cs) w
 past r = record { trace = r .trace; feeds = stream.Feeds.used (r .feeds); text = r .text }
 
 one-piece : (k : ℕ) (t : Stage) (c : List ℕ) (cs : List (List ℕ)) (v : List ℕ) → Stands (t .session .splitter) (t .hold) v → length c ≤ k → Rest cs
-    → Traced t (c ∷ cs) (behind (works k t c .text) (runs (works k t c .stage) cs))
+    → Traced t (c ∷ cs) (behind (works k t c .text) (allPieces (works k t c .stage) cs))
 unfolding works
 one-piece zero t [] cs v s l rest = past (rest t v s)
 one-piece zero t (b ∷ c) cs v s l rest = absurd (not-suc-le-zero l)
@@ -105,20 +105,20 @@ one-piece (suc k) t (b ∷ c) cs v s l rest =
     let a : Agrees (t .hold) d v g = one-call v d s in
     let t′ : Stage = stageAfter t d in
     let le : length (drop (g .taken) d) ≤ k = rw (length-drop (g .taken) d) (omega (arith, a .moves (omega arith))) in
-    let r : Traced t′ (drop (g .taken) d ∷ cs) (behind (works k t′ (drop (g .taken) d) .text) (runs (works k t′ (drop (g .taken) d) .stage) cs)) =
+    let r : Traced t′ (drop (g .taken) d ∷ cs) (behind (works k t′ (drop (g .taken) d) .text) (allPieces (works k t′ (drop (g .taken) d) .stage) cs)) =
     one-piece k t′ (drop (g .taken) d) cs _ (a .stands) le rest
     in
     let e = allowed (t .session .splitter) (t .hold) d in
-    let q : saidOf d (g .held) (toldEvent (fedOf g .event)) ≡ said t d = ap (λ (x : Given). saidOf d (g .held) (x .answer)) e in
+    let q : saidOf d (g .hold) (toldEvent (fedOf g .event)) ≡ said t d = ap (λ (x : Given). saidOf d (g .hold) (x .answer)) e in
     let m = length (t .payload) in
     let n = t .session .number in
     record {
       trace = _;
-      feeds = stream.Feeds.feed (fedOf g) (g .held) e (r .feeds);
+      feeds = stream.Feeds.feed (fedOf g) (g .hold) e (r .feeds);
       text =
-          append-assoc (textOf t d) (works k t′ (drop (g .taken) d) .text) (runs (works k t′ (drop (g .taken) d) .stage) cs .text)
-          ∙ ap (λ (x : List ℕ). textOf t d ++ x) (r .text)
-          ∙ ap (λ (x : ℕ). textOf t d ++ linesOf x (numberTo n (said t d)) (answers (r .trace))) (payload-size (t .payload) (said t d))
+          append-assoc (eventText t d) (works k t′ (drop (g .taken) d) .text) (allPieces (works k t′ (drop (g .taken) d) .stage) cs .text)
+          ∙ ap (λ (x : List ℕ). eventText t d ++ x) (r .text)
+          ∙ ap (λ (x : ℕ). eventText t d ++ linesOf x (numberTo n (said t d)) (answers (r .trace))) (payload-size (t .payload) (said t d))
           ∙ said-first m n (said t d) (answers (r .trace))
           ∙ ap (λ (x : Said). linesOf m n (unlessMore x ++ answers (r .trace))) (sym q);
     }
@@ -130,22 +130,22 @@ all-pieces (c ∷ cs) t v s = one-piece (length c) t c cs v s (omega arith) (all
 -- ---- the theorems
 
 module _ (h p : List ℕ) (cs : List (List ℕ)) where
-  traced : Traced (first h p) cs (runs (first h p) cs)
+  traced : Traced (first h p) cs (allPieces (first h p) cs)
   traced = all-pieces cs (first h p) [] (stands-fresh new h)
 
-  calls : Calls new h (joined cs) (traced .trace) (runs (first h p) cs .stage .session .splitter) (runs (first h p) cs .stage .hold)
+  calls : Calls new h (joined cs) (traced .trace) (allPieces (first h p) cs .stage .session .splitter) (allPieces (first h p) cs .stage .hold)
   calls = feeds-calls (traced .feeds)
 
   -- H is the hold buffer's length; the Rust is fed the same bytes, cut in any other way
-  pub prints : (ds : List (List ℕ)) → joined cs ≡ joined ds → runs (first h p) cs .text ≡ linesOf (length p) 0 (map (answerTo (length h)) (rustFrames [] ds))
+  pub prints : (ds : List (List ℕ)) → joined cs ≡ joined ds → allPieces (first h p) cs .text ≡ linesOf (length p) 0 (map (answerTo (length h)) (rustFrames [] ds))
   prints ds e = traced .text ∙ ap (linesOf (length p) 0) (as-the-rust ds (rw e at calls))
 
 -- pieces of one stream, cut in two ways, with buffers of equal lengths, whatever they hold
 pub any-cut : (h p : List ℕ) (cs₁ : List (List ℕ)) (h′ p′ : List ℕ) (cs₂ : List (List ℕ)) → length h ≡ length h′ → length p ≡ length p′ → joined cs₁ ≡ joined cs₂
-    → printed (runs (first h p) cs₁) ≡ printed (runs (first h′ p′) cs₂)
+    → printed (allPieces (first h p) cs₁) ≡ printed (allPieces (first h′ p′) cs₂)
 any-cut h p cs₁ h′ p′ cs₂ eh ep e =
     let a = any-cutting eh (rw e at (calls h p cs₁)) (calls h′ p′ cs₂) in
-    let texts : runs (first h p) cs₁ .text ≡ runs (first h′ p′) cs₂ .text =
+    let texts : allPieces (first h p) cs₁ .text ≡ allPieces (first h′ p′) cs₂ .text =
     traced h p cs₁ .text ∙ (λ i. linesOf (ep i) 0 (a .says i)) ∙ sym (traced h′ p′ cs₂ .text)
     in
     λ i. texts i ++ endText (a .state i .count) (a .state i .skipping)

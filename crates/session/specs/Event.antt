@@ -6,7 +6,7 @@ use mathlib.Core.List.{List, _++_}
 use lib.ListN.{length, drop}
 use Rattle.error.specs.Refusal.{Told, yes, no}
 use Rattle.session.specs.declared.Step.{Step}
-use Rattle.session.specs.Piece.{Stage, stage, fed, textOf, stageAfter}
+use Rattle.session.specs.Piece.{Stage, stage, fed, stageAfter, eventText}
 
 -- the bytes of a line that was put; none of one that was refused
 abbrev pub countOf : Told ℕ → ℕ
@@ -23,4 +23,4 @@ pub record Wrote (text old : List ℕ) (n : ℕ) (new : List ℕ) : Type 0 where
 pub record Stepped (t : Stage) (c out : List ℕ) (r : Step) (h p new : List ℕ) : Type 0 where
   pub taken : r .taken ≡ fed t c .taken
   pub after : stage (r .session) h p ≡ stageAfter t c
-  pub line : Wrote (textOf t c) out (r .written) new
+  pub line : Wrote (eventText t c) out (r .written) new

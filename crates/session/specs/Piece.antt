@@ -29,10 +29,10 @@ abbrev pub fed : Stage → List ℕ → Given
 fed t c = feedRule (t .session .splitter) (t .hold) c
 
 abbrev pub said : Stage → List ℕ → Said
-said t c = saidOf c (fed t c .held) (fed t c .answer)
+said t c = saidOf c (fed t c .hold) (fed t c .answer)
 
-abbrev pub textOf : Stage → List ℕ → List ℕ
-textOf t c = lineTo (length (t .payload)) (t .session .number) (said t c)
+abbrev pub eventText : Stage → List ℕ → List ℕ
+eventText t c = lineTo (length (t .payload)) (t .session .number) (said t c)
 
 -- a frame's payload fills the payload buffer's front
 abbrev pub payloadTo : List ℕ → Said → List ℕ
@@ -43,7 +43,7 @@ payloadTo p (Refused k vs) = p
 
 abbrev pub stageAfter : Stage → List ℕ → Stage
 stageAfter t c =
-    stage (record { splitter = fed t c .state; number = numberTo (t .session .number) (said t c) }) (fed t c .held) (payloadTo (t .payload) (said t c))
+    stage (record { splitter = fed t c .state; number = numberTo (t .session .number) (said t c) }) (fed t c .hold) (payloadTo (t .payload) (said t c))
 
 -- ---- the whole piece
 
@@ -61,7 +61,7 @@ behind l w = work (l ++ w .text) (w .stage)
 unfoldable pub works : ℕ → Stage → List ℕ → Work
 works zero t c = work [] t
 works (suc k) t [] = work [] t
-works (suc k) t (b ∷ c) = behind (textOf t (b ∷ c)) (works k (stageAfter t (b ∷ c)) (drop (fed t (b ∷ c) .taken) (b ∷ c)))
+works (suc k) t (b ∷ c) = behind (eventText t (b ∷ c)) (works k (stageAfter t (b ∷ c)) (drop (fed t (b ∷ c) .taken) (b ∷ c)))
 
 -- the room asked for: 128 bytes for each byte of the piece, which can end one event at most; the largest usize where that passes it
 abbrev pub roomFor : ℕ → ℕ
@@ -76,8 +76,8 @@ pub record Done : Type 0 where
 abbrev pub done : Told (List ℕ) → Stage → List ℕ → Done
 done text t out = record { reply = onYes length text; stage = t; out = filled text out }
 
-abbrev pub shown : Ran → List ℕ → List ℕ → List ℕ → Done
-shown r h p out = record { reply = toldUsize (r .reply); stage = stage (r .session) h p; out = out }
+abbrev pub doneBy : Ran → List ℕ → List ℕ → List ℕ → Done
+doneBy r h p out = record { reply = toldUsize (r .reply); stage = stage (r .session) h p; out = out }
 
 -- the lines of the whole piece
 abbrev pub allLines : Stage → List ℕ → List ℕ → Done

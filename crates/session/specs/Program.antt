@@ -12,9 +12,9 @@ abbrev pub first : List ℕ → List ℕ → Stage
 first hold payload = stage (record { splitter = new; number = 0 }) hold payload
 
 -- piece after piece
-abbrev pub runs : Stage → List (List ℕ) → Work
-runs t [] = work [] t
-runs t (c ∷ cs) = behind (works (length c) t c .text) (runs (works (length c) t c .stage) cs)
+abbrev pub allPieces : Stage → List (List ℕ) → Work
+allPieces t [] = work [] t
+allPieces t (c ∷ cs) = behind (works (length c) t c .text) (allPieces (works (length c) t c .stage) cs)
 
 abbrev pub printed : Work → List ℕ
 printed w = w .text ++ endText (w .stage .session .splitter .count) (w .stage .session .splitter .skipping)

@@ -9,7 +9,7 @@ ghost use Rattle.splitter.specs.Feed.{new, isBad};
 ghost use Rattle.stream.specs.Stream.{Frame};
 ghost use Rattle.report.specs.Line.{longText};
 ghost use Rattle.session.specs.Lines.{lineTo};
-ghost use Rattle.session.specs.Piece.{stage, payloadTo, roomFor, allLines, shown, pieceRule, frontOf};
+ghost use Rattle.session.specs.Piece.{stage, payloadTo, roomFor, allLines, pieceRule, frontOf, doneBy};
 ghost use Rattle.session.specs.Event.{countOf, Wrote, Stepped};
 use error::ResultUsize;
 use error::WireError;
@@ -41,7 +41,7 @@ impl Session {
 
     // All of a piece: the lines of its events at the front of out.
     pub fn piece(self, hold: &mut [u8], payload: &mut [u8], chunk: &[u8], out: &mut [u8]) -> Ran
-        ensures { λ r. ⌜ shown r (now (hold .exit)) (now (payload .exit)) (now (out .exit)) ≡ pieceRule (stage self (now (hold .entry)) (now (payload .entry))) (now (chunk .entry)) (now (out .entry)) ⌝ }
+        ensures { λ r. ⌜ doneBy r (now (hold .exit)) (now (payload .exit)) (now (out .exit)) ≡ pieceRule (stage self (now (hold .entry)) (now (payload .entry))) (now (chunk .entry)) (now (out .entry)) ⌝ }
     {
         if self.splitter.is_bad(hold.len()) {
             return Ran {
@@ -97,7 +97,7 @@ fn all_lines(
     out: &mut [u8],
 ) -> Ran
     requires { ⌜ (isBad (start .splitter) (length (now hold)) ≡ false) × (128 * length (now chunk) ≤ length (now out)) ⌝ }
-    ensures { λ r. ⌜ shown r (now (hold .exit)) (now (payload .exit)) (now (out .exit)) ≡ allLines (stage start (now (hold .entry)) (now (payload .entry))) (now (chunk .entry)) (now (out .entry)) ⌝ }
+    ensures { λ r. ⌜ doneBy r (now (hold .exit)) (now (payload .exit)) (now (out .exit)) ≡ allLines (stage start (now (hold .entry)) (now (payload .entry))) (now (chunk .entry)) (now (out .entry)) ⌝ }
 {
     let mut session = start;
     let mut at = 0;

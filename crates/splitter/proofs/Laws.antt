@@ -15,7 +15,7 @@ use Rattle.search.specs.First.{firstFrom}
 use Rattle.splitter.specs.declared.FrameSplitter.{FrameSplitter}
 use Rattle.splitter.specs.declared.Fed.{Fed}
 use Rattle.splitter.specs.declared.Event.the-variants.{More, Frame, Overlong}
-use Rattle.splitter.specs.Feed.{given, shown, new, holding, marked, isBad, isKept, startIn, part, laid, total, ends, goesOn, runs, feedRule}
+use Rattle.splitter.specs.Feed.{given, new, holding, marked, isBad, isKept, startIn, part, laid, ends, goesOn, runs, feedRule, lengthWith, givenBy}
 
 -- a whole list that is pasted
 pub paste-all : (d : List ℕ) (at : ℕ) (s : List ℕ) (i : ℕ) → i ≡ length s → paste d at s i ≡ laid d at s
@@ -24,12 +24,12 @@ paste-all d at s i e = rw (e, take-length)
 -- a frame without the mark is lost where the room that is left is less than what is added
 pub lost-is : (s : FrameSplitter) (H n : ℕ) → s .skipping ≡ false → s .count ≤ H → ltb (H - s .count) n ≡ not (isKept s H n)
 lost-is s H n m l =
-    by-test (leb (total s n) H)
+    by-test (leb (lengthWith s n) H)
     (λ e.
-    let k : s .count + n ≤ H = leb-true (total s n) H e in
+    let k : s .count + n ≤ H = leb-true (lengthWith s n) H e in
     rw (m, e, le-ltb (H - s .count) n (omega arith)))
     (λ e.
-    let k : H < s .count + n = leb-false (total s n) H e in
+    let k : H < s .count + n = leb-false (lengthWith s n) H e in
     rw (m, e, lt-ltb (H - s .count) n (omega arith)))
 
 -- a frame that is kept has no mark, and fits
@@ -39,35 +39,35 @@ both true b e =
     (sym z, cc)
 both false b e = (refl, e)
 
-pub kept-is : (s : FrameSplitter) (H n : ℕ) → isKept s H n ≡ true → (s .skipping ≡ false) × (total s n ≤ H)
+pub kept-is : (s : FrameSplitter) (H n : ℕ) → isKept s H n ≡ true → (s .skipping ≡ false) × (lengthWith s n ≤ H)
 kept-is s H n e =
-    let k = both (s .skipping) (leb (total s n) H) e in
-    (k .0, leb-true (total s n) H (k .1))
+    let k = both (s .skipping) (leb (lengthWith s n) H) e in
+    (k .0, leb-true (lengthWith s n) H (k .1))
 
 -- ---- a reply r, with the hold buffer h′ after it, where a frame ends or goes on
 
 module _ (s : FrameSplitter) (h c : List ℕ) (i e : ℕ) (r : Fed) where
-  pub ends-lost : r ≡ record { event = Overlong; taken = e; splitter = new } → isKept s (length h) (e - i) ≡ false → shown r h ≡ ends s h c i e
+  pub ends-lost : r ≡ record { event = Overlong; taken = e; splitter = new } → isKept s (length h) (e - i) ≡ false → givenBy r h ≡ ends s h c i e
   unfolding ends
   ends-lost p k = rw (p, k)
 
-  pub goes-lost : r ≡ record { event = More; taken = e; splitter = marked s } → isKept s (length h) (e - i) ≡ false → shown r h ≡ goesOn s h c i e
+  pub goes-lost : r ≡ record { event = More; taken = e; splitter = marked s } → isKept s (length h) (e - i) ≡ false → givenBy r h ≡ goesOn s h c i e
   unfolding goesOn
   goes-lost p k = rw (p, k)
 
   module _ (k : isKept s (length h) (e - i) ≡ true) where
     pub ends-shown : r ≡ record { event = Frame (record { in_hold = false; start = i; len = e - i }); taken = e; splitter = new } → s .count ≡ 0
-        → shown r h ≡ ends s h c i e
+        → givenBy r h ≡ ends s h c i e
     unfolding ends
     ends-shown p z = rw (p, k, kept-is s (length h) (e - i) k .0, eq-eqb (s .count) 0 z)
 
     module _ (h′ : List ℕ) (q : h′ ≡ laid h (s .count) (part c i e)) where
-      pub ends-held : r ≡ record { event = Frame (record { in_hold = true; start = 0; len = total s (e - i) }); taken = e; splitter = new }
-          → (s .count ≡ 0 → ⊥) → shown r h′ ≡ ends s h c i e
+      pub ends-held : r ≡ record { event = Frame (record { in_hold = true; start = 0; len = lengthWith s (e - i) }); taken = e; splitter = new }
+          → (s .count ≡ 0 → ⊥) → givenBy r h′ ≡ ends s h c i e
       unfolding ends
       ends-held p n = rw (p, q, k, kept-is s (length h) (e - i) k .0, ne-eqb (s .count) 0 n)
 
-      pub goes-held : r ≡ record { event = More; taken = e; splitter = holding s (total s (e - i)) } → shown r h′ ≡ goesOn s h c i e
+      pub goes-held : r ≡ record { event = More; taken = e; splitter = holding s (lengthWith s (e - i)) } → givenBy r h′ ≡ goesOn s h c i e
       unfolding goesOn
       goes-held p = rw (p, q, k)
 

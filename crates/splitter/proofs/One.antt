@@ -9,7 +9,7 @@ use Rattle.splitter.specs.declared.FrameSplitter.{FrameSplitter}
 use Rattle.splitter.specs.declared.Fed.{Fed}
 use Rattle.splitter.specs.declared.Event.{Event}
 use Rattle.splitter.specs.declared.Event.the-variants.{More, Frame, Overlong, Err}
-use Rattle.splitter.specs.Feed.{Given, Answer, more, overlong, frame, new, toldEvent, shown, feedRule}
+use Rattle.splitter.specs.Feed.{Given, Answer, more, overlong, frame, new, toldEvent, feedRule, givenBy}
 
 -- the event back from what is told
 unfoldable pub eventOf : Told Answer → Event
@@ -28,13 +28,13 @@ event-back (Err e) = ap Err (there e)
 abbrev pub fedOf : Given → Fed
 fedOf g = record { event = eventOf (g .answer); taken = g .taken; splitter = g .state }
 
-fed-back : (f : Fed) (h : List ℕ) → fedOf (shown f h) ≡ f
+fed-back : (f : Fed) (h : List ℕ) → fedOf (givenBy f h) ≡ f
 fed-back f h = ap (λ (e : Event). record { event = e; taken = f .taken; splitter = f .splitter }) (event-back (f .event))
 
-pub one-fed : {f f′ : Fed} {h₁ h₂ : List ℕ} (s : FrameSplitter) (h c : List ℕ) → shown f h₁ ≡ feedRule s h c → shown f′ h₂ ≡ feedRule s h c → (f ≡ f′) × (h₁ ≡ h₂)
+pub one-fed : {f f′ : Fed} {h₁ h₂ : List ℕ} (s : FrameSplitter) (h c : List ℕ) → givenBy f h₁ ≡ feedRule s h c → givenBy f′ h₂ ≡ feedRule s h c → (f ≡ f′) × (h₁ ≡ h₂)
 one-fed {f} {f′} {h₁} {h₂} s h c e e′ =
     let w = e ∙ sym e′ in
-    (sym (fed-back f h₁) ∙ ap fedOf w ∙ fed-back f′ h₂, ap (λ (g : Given). g .held) w)
+    (sym (fed-back f h₁) ∙ ap fedOf w ∙ fed-back f′ h₂, ap (λ (g : Given). g .hold) w)
 
 pub one-new : {r s : FrameSplitter} → r ≡ new → s ≡ new → r ≡ s
 one-new p q = p ∙ sym q

@@ -30,13 +30,13 @@ pub record Given : Type 0 where
   pub answer : Told Answer
   pub taken : ℕ
   pub state : FrameSplitter
-  pub held : List ℕ
+  pub hold : List ℕ
 
 abbrev pub given : Told Answer → ℕ → FrameSplitter → List ℕ → Given
-given a n s h = record { answer = a; taken = n; state = s; held = h }
+given a n s h = record { answer = a; taken = n; state = s; hold = h }
 
-abbrev pub shown : Fed → List ℕ → Given
-shown f h = given (toldEvent (f .event)) (f .taken) (f .splitter) h
+abbrev pub givenBy : Fed → List ℕ → Given
+givenBy f h = given (toldEvent (f .event)) (f .taken) (f .splitter) h
 
 -- ---- states
 
@@ -78,19 +78,19 @@ laid h at p = take at h ++ p ++ drop (at + length p) h
 -- ---- the rule; the frame's bytes of this chunk are those from index i up to index e
 
 -- the frame's length with n more bytes
-abbrev pub total : FrameSplitter → ℕ → ℕ
-total s n = s .count + n
+abbrev pub lengthWith : FrameSplitter → ℕ → ℕ
+lengthWith s n = s .count + n
 
 -- it has no mark, and is then no longer than H
 abbrev pub isKept : FrameSplitter → ℕ → ℕ → Bool
-isKept s H n = not (s .skipping) && leb (total s n) H
+isKept s H n = not (s .skipping) && leb (lengthWith s n) H
 
--- it ends there: completed in the hold where it was open, else shown where it lies; or it is lost
+-- it ends there: completed in the hold where it was open, else givenBy where it lies; or it is lost
 unfoldable pub ends : FrameSplitter → List ℕ → List ℕ → ℕ → ℕ → Given
 ends s h c i e =
     cond (isKept s (length h) (e - i))
     (cond (isOpen s)
-    (given (yes (frame (record { in_hold = true; start = 0; len = total s (e - i) }))) e (fresh s) (laid h (s .count) (part c i e)))
+    (given (yes (frame (record { in_hold = true; start = 0; len = lengthWith s (e - i) }))) e (fresh s) (laid h (s .count) (part c i e)))
     (given (yes (frame (record { in_hold = false; start = i; len = e - i }))) e (fresh s) h))
     (given (yes overlong) e (fresh s) h)
 
@@ -98,7 +98,7 @@ ends s h c i e =
 unfoldable pub goesOn : FrameSplitter → List ℕ → List ℕ → ℕ → ℕ → Given
 goesOn s h c i e =
     cond (isKept s (length h) (e - i))
-    (given (yes more) e (holding s (total s (e - i))) (laid h (s .count) (part c i e)))
+    (given (yes more) e (holding s (lengthWith s (e - i))) (laid h (s .count) (part c i e)))
     (given (yes more) e (marked s) h)
 
 -- from the frame's first byte in the chunk to its first F1, or to the chunk's end

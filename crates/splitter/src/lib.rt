@@ -4,7 +4,7 @@ ghost use mathlib.Core.Path.{_≡_};
 ghost use mathlib.Core.Bool.{not};
 ghost use Prim.Native.Nat.{_+_, _≤_};
 ghost use lib.ListN.{length};
-ghost use Rattle.splitter.specs.Feed.{new, isBad, isKept, startIn, laid, shown, ends, goesOn, feedRule};
+ghost use Rattle.splitter.specs.Feed.{new, isBad, isKept, startIn, laid, ends, goesOn, feedRule, givenBy};
 use error::WireError;
 use marks::END;
 use marks::START;
@@ -50,7 +50,7 @@ impl FrameSplitter {
     }
 
     pub fn feed(self, hold: &mut [u8], chunk: &[u8]) -> Fed
-        ensures { λ r. ⌜ shown r (now (hold .exit)) ≡ feedRule self (now (hold .entry)) (now (chunk .entry)) ⌝ }
+        ensures { λ r. ⌜ givenBy r (now (hold .exit)) ≡ feedRule self (now (hold .entry)) (now (chunk .entry)) ⌝ }
     {
         let room = hold.len();
         if self.is_bad(room) {
@@ -111,7 +111,7 @@ fn lost(s: FrameSplitter, room: usize, added: usize) -> bool
 fn closes(s: FrameSplitter, hold: &mut [u8], chunk: &[u8], from: usize, to: usize) -> Fed
     requires { ⌜ s .count ≤ length (now hold) ⌝ }
     requires { ⌜ (from ≤ to) × (to ≤ length (now chunk)) ⌝ }
-    ensures { λ r. ⌜ shown r (now (hold .exit)) ≡ ends s (now (hold .entry)) (now (chunk .entry)) from to ⌝ }
+    ensures { λ r. ⌜ givenBy r (now (hold .exit)) ≡ ends s (now (hold .entry)) (now (chunk .entry)) from to ⌝ }
 {
     let count = s.count;
     let len = to - from;
@@ -154,7 +154,7 @@ fn ended(event: Event, taken: usize) -> Fed
 fn stays(s: FrameSplitter, hold: &mut [u8], chunk: &[u8], from: usize) -> Fed
     requires { ⌜ s .count ≤ length (now hold) ⌝ }
     requires { ⌜ from ≤ length (now chunk) ⌝ }
-    ensures { λ r. ⌜ shown r (now (hold .exit)) ≡ goesOn s (now (hold .entry)) (now (chunk .entry)) from (length (now (chunk .entry))) ⌝ }
+    ensures { λ r. ⌜ givenBy r (now (hold .exit)) ≡ goesOn s (now (hold .entry)) (now (chunk .entry)) from (length (now (chunk .entry))) ⌝ }
 {
     let count = s.count;
     let n = chunk.len();

@@ -14,7 +14,7 @@ use Rattle.general.proofs.Cases.{by-test, by-lt}
 use Rattle.splitter.specs.declared.FrameSplitter.{FrameSplitter}
 use Rattle.search.specs.First.{indexOf}
 use Rattle.search.proofs.First.{found, index-le}
-use Rattle.splitter.specs.Feed.{Given, fresh, isBad, startIn, part, laid, total, ends, goesOn, feedRule}
+use Rattle.splitter.specs.Feed.{Given, fresh, isBad, startIn, part, laid, ends, goesOn, feedRule, lengthWith}
 use Rattle.stream.specs.Stream.{Said, More, saidOf, atLast, answerTo}
 use Rattle.splitter.proofs.Laws.{feed-ends, feed-goes-on}
 use Rattle.stream.proofs.Line.{opened, hear, silence, hear-append, opened-append, at-last-add, silent, dropped, goes-on, closes, opens-goes-on, opens-closes}
@@ -101,34 +101,34 @@ module _ (H : ℕ) where
 
 -- what a call does: says a, takes n bytes, and leaves w open
 record Does (h c : List ℕ) (g : Given) (a : Said) (n : ℕ) (w : List ℕ) : Type 0 where
-  says : saidOf c (g .held) (g .answer) ≡ a
+  says : saidOf c (g .hold) (g .answer) ≡ a
   takes : g .taken ≡ n
-  stands : Stands (g .state) (g .held) w
-  size : length (g .held) ≡ length h
+  stands : Stands (g .state) (g .hold) w
+  size : length (g .hold) ≡ length h
 
 module _ (s : FrameSplitter) (h c w : List ℕ) (i e : ℕ) (lo : i ≤ e) (hi : e ≤ length c) where
   part-long : length (part c i e) ≡ e - i
   part-long = simp (length-take, length-drop) (omega arith)
 
-  open-long : s .count ≡ length w → length (w ++ part c i e) ≡ total s (e - i)
+  open-long : s .count ≡ length w → length (w ++ part c i e) ≡ lengthWith s (e - i)
   open-long n = length-append w (part c i e) ∙ rw (n, part-long)
 
-  module _ (n : s .count ≡ length w) (k : take (length w) h ≡ w) (t : total s (e - i) ≤ length h) where
-    laid-is : laid h (s .count) (part c i e) ≡ (w ++ part c i e) ++ drop (total s (e - i)) h
+  module _ (n : s .count ≡ length w) (k : take (length w) h ≡ w) (t : lengthWith s (e - i) ≤ length h) where
+    laid-is : laid h (s .count) (part c i e) ≡ (w ++ part c i e) ++ drop (lengthWith s (e - i)) h
     laid-is = rw (part-long, n, k, append-assoc)
 
-    laid-front : take (total s (e - i)) (laid h (s .count) (part c i e)) ≡ w ++ part c i e
-    laid-front = rw laid-is (take-at (w ++ part c i e) (drop (total s (e - i)) h) (total s (e - i)) (open-long n))
+    laid-front : take (lengthWith s (e - i)) (laid h (s .count) (part c i e)) ≡ w ++ part c i e
+    laid-front = rw laid-is (take-at (w ++ part c i e) (drop (lengthWith s (e - i)) h) (lengthWith s (e - i)) (open-long n))
 
     laid-long : length (laid h (s .count) (part c i e)) ≡ length h
-    laid-long = rw (laid-is, length-append (w ++ part c i e) (drop (total s (e - i)) h), open-long n, length-drop) (omega arith)
+    laid-long = rw (laid-is, length-append (w ++ part c i e) (drop (lengthWith s (e - i)) h), open-long n, length-drop) (omega arith)
 
   ended : Stands s h w → Does h c (ends s h c i e) (answerTo (length h) (w ++ part c i e)) e []
   unfolding ends
   ended (fits l n m k) =
-      by-test (leb (total s (e - i)) (length h))
+      by-test (leb (lengthWith s (e - i)) (length h))
       (λ b.
-      let t : total s (e - i) ≤ length h = leb-true _ _ b in
+      let t : lengthWith s (e - i) ≤ length h = leb-true _ _ b in
       by-test (eqb (s .count) 0)
       (λ z.
       let o : s .count ≡ 0 = eqb-true (s .count) 0 z in
@@ -136,7 +136,7 @@ module _ (s : FrameSplitter) (h c w : List ℕ) (i e : ℕ) (lo : i ≤ e) (hi :
       let u : i + (e - i) ≤ length c = omega arith in
       rw (open-long n, m, b, z) (record { says = rw (le-leb _ _ u, v); takes = refl; stands = stands-fresh s h; size = refl }))
       (λ z.
-      let u : 0 + total s (e - i) ≤ length (laid h (s .count) (part c i e)) = rw (laid-long n k t) (omega arith) in
+      let u : 0 + lengthWith s (e - i) ≤ length (laid h (s .count) (part c i e)) = rw (laid-long n k t) (omega arith) in
       rw (open-long n, m, b, z) (record {
         says = rw (le-leb _ _ u, laid-front n k t);
         takes = refl;
@@ -151,9 +151,9 @@ module _ (s : FrameSplitter) (h c w : List ℕ) (i e : ℕ) (lo : i ≤ e) (hi :
   went-on : Stands s h w → Does h c (goesOn s h c i e) More e (w ++ part c i e)
   unfolding goesOn
   went-on (fits l n m k) =
-      by-test (leb (total s (e - i)) (length h))
+      by-test (leb (lengthWith s (e - i)) (length h))
       (λ b.
-      let t : total s (e - i) ≤ length h = leb-true _ _ b in
+      let t : lengthWith s (e - i) ≤ length h = leb-true _ _ b in
       rw (m, b) (record {
         says = refl;
         takes = refl;
@@ -172,9 +172,9 @@ module _ (s : FrameSplitter) (h c w : List ℕ) (i e : ℕ) (lo : i ≤ e) (hi :
 -- over the bytes that a call takes, it and the line say the same, and its state stands for what the line leaves open
 pub record Agrees (h c w : List ℕ) (g : Given) : Type 0 where
   pub within : g .taken ≤ length c
-  pub heard : atLast (g .taken) (saidOf c (g .held) (g .answer)) ≡ hear (length h) w (take (g .taken) c)
-  pub stands : Stands (g .state) (g .held) (opened w (take (g .taken) c))
-  pub size : length (g .held) ≡ length h
+  pub heard : atLast (g .taken) (saidOf c (g .hold) (g .answer)) ≡ hear (length h) w (take (g .taken) c)
+  pub stands : Stands (g .state) (g .hold) (opened w (take (g .taken) c))
+  pub size : length (g .hold) ≡ length h
   pub moves : 0 < length c → 0 < g .taken
 
 agree : (h c w : List ℕ) (g : Given) (a : Said) (n : ℕ) (w′ : List ℕ) → Does h c g a n w′ → n ≤ length c → hear (length h) w (take n c) ≡ atLast n a

@@ -19,7 +19,7 @@ use Rattle.splitter.specs.declared.FrameSplitter.{FrameSplitter}
 use Rattle.splitter.specs.declared.Fed.{Fed}
 use Rattle.splitter.specs.declared.Event.the-variants.{Err}
 use Rattle.search.specs.First.{indexOf, firstFrom}
-use Rattle.splitter.specs.Feed.{Given, Answer, given, more, toldEvent, shown, isBad, isOpen, isKept, startIn, laid, ends, goesOn, runs, feedRule}
+use Rattle.splitter.specs.Feed.{Given, Answer, given, more, toldEvent, isBad, isOpen, isKept, startIn, laid, ends, goesOn, runs, feedRule, givenBy}
 use Rattle.stream.specs.Stream.{Call, Calls, Feeds, joined}
 use Rattle.stream.specs.Stream as stream
 use Rattle.splitter.proofs.Laws.{not-bad, feed-bad, feed-goes-on}
@@ -64,7 +64,7 @@ module _ (s : FrameSplitter) (h c : List ℕ) where
   feed-moves b = good-call s h b c .moves
 
 -- the same of any reply that the contract of `feed` allows: at most the chunk, and at least a byte of one that is not empty, unless it is refused
-pub fed-within : (f : Fed) (h′ : List ℕ) (s : FrameSplitter) (h c : List ℕ) → shown f h′ ≡ feedRule s h c → f .taken ≤ length c
+pub fed-within : (f : Fed) (h′ : List ℕ) (s : FrameSplitter) (h c : List ℕ) → givenBy f h′ ≡ feedRule s h c → f .taken ≤ length c
 fed-within f h′ s h c e =
     let t : f .taken ≡ feedRule s h c .taken = ap (λ (g : Given). g .taken) e in
     rw t (feed-within s h c)
@@ -72,7 +72,7 @@ fed-within f h′ s h c e =
 never : {A : Type 0} (n : ℕ) (vs : List ℕ) (a : A) → no n vs ≡ yes a → ⊥
 never n vs a e = let z : _≡_ {A = ℕ} 0 1 = cc in omega arith
 
-pub fed-moves : (f : Fed) (a : Answer) (h′ : List ℕ) (s : FrameSplitter) (h c : List ℕ) → shown f h′ ≡ feedRule s h c → toldEvent (f .event) ≡ yes a → 0 < length c → 0 < f .taken
+pub fed-moves : (f : Fed) (a : Answer) (h′ : List ℕ) (s : FrameSplitter) (h c : List ℕ) → givenBy f h′ ≡ feedRule s h c → toldEvent (f .event) ≡ yes a → 0 < length c → 0 < f .taken
 fed-moves f a h′ s h c e y p =
     let t : f .taken ≡ feedRule s h c .taken = ap (λ (g : Given). g .taken) e in
     let z : feedRule s h c .answer ≡ yes a = sym (ap (λ (g : Given). g .answer) e) ∙ y in
@@ -114,10 +114,10 @@ replied s h c =
     (λ l. by-test (isKept s (length h) (j + 1 - i)) (λ k. by-test (isOpen s) (λ o. rw (b, l, k, o)) (λ o. rw (b, l, k, o))) (λ k. rw (b, l, k)))
     (λ l. by-test (isKept s (length h) (length c - i)) (λ k. rw (b, l, k)) (λ k. rw (b, l, k))))
 
-pub allowed : (s : FrameSplitter) (h c : List ℕ) → shown (fedOf (feedRule s h c)) (feedRule s h c .held) ≡ feedRule s h c
+pub allowed : (s : FrameSplitter) (h c : List ℕ) → givenBy (fedOf (feedRule s h c)) (feedRule s h c .hold) ≡ feedRule s h c
 allowed s h c =
     let g = feedRule s h c in
-    ap (λ (a : Told Answer). given a (g .taken) (g .state) (g .held)) (replied s h c)
+    ap (λ (a : Told Answer). given a (g .taken) (g .state) (g .hold)) (replied s h c)
 
 -- ---- chunks
 
@@ -152,8 +152,8 @@ one-chunk (suc n) s h (x ∷ c) cs good l go =
     let g : Given = feedRule s h (x ∷ c) in
     let t : 0 < g .taken = feed-moves s h (x ∷ c) good (omega arith) in
     let le : length (drop (g .taken) (x ∷ c)) ≤ n = rw (length-drop (g .taken) (x ∷ c)) (omega arith) in
-    let r = one-chunk n (g .state) (g .held) (drop (g .taken) (x ∷ c)) cs (stands-good (good-call s h good (x ∷ c) .stands)) le go in
-    record { trace = _; state = r .state; held = r .held; feeds = stream.Feeds.feed (fedOf g) (g .held) (allowed s h (x ∷ c)) (r .feeds) }
+    let r = one-chunk n (g .state) (g .hold) (drop (g .taken) (x ∷ c)) cs (stands-good (good-call s h good (x ∷ c) .stands)) le go in
+    record { trace = _; state = r .state; held = r .held; feeds = stream.Feeds.feed (fedOf g) (g .hold) (allowed s h (x ∷ c)) (r .feeds) }
 
 -- however a stream is cut into chunks, offering each untaken rest again comes to an end
 unfoldable pub all-end : (cs : List (List ℕ)) (s : FrameSplitter) (h : List ℕ) → isBad s (length h) ≡ false → Through s h cs

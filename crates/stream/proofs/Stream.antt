@@ -10,7 +10,7 @@ use lib.ListN.{length, take, drop, length-take, take-append-drop}
 use lib.Seq.{take-take, length-take-le}
 use borrow.Author.Tests.{le-leb, lt-leb}
 use Rattle.splitter.specs.declared.FrameSplitter.{FrameSplitter}
-use Rattle.splitter.specs.Feed.{new, toldEvent, shown}
+use Rattle.splitter.specs.Feed.{new, toldEvent, givenBy}
 use Rattle.stream.specs.Stream.{Said, More, Overlong, Frame, Refused, saidOf, Call, Calls, done, next, takenBy, unlessMore, answers, atLast, heard, Alike}
 use Rattle.stream.proofs.Line.{opened, hear, silence, hear-append, opened-append}
 use Rattle.stream.proofs.Calls.{Stands, fits, long, stands-fresh, Agrees, one-call}
@@ -39,7 +39,7 @@ pub follows : {s s′ : FrameSplitter} {h h′ b : List ℕ} {t : List Call} (w 
 follows w k done = record { hears = refl; takes = refl; plain = tt; stands = k; size = refl }
 follows {h = h} {b = b} w k (next {t = t} n r h₁ e rest) =
     let c : List ℕ = take n b in
-    let a : Agrees h c w (shown r h₁) = rw e (one-call w c k) in
+    let a : Agrees h c w (givenBy r h₁) = rw e (one-call w c k) in
     let said : Said = saidOf c h₁ (toldEvent (r .event)) in
     let m : List ℕ = take (r .taken) b in
     let d : List ℕ = drop (r .taken) b in

@@ -9,7 +9,7 @@ use lib.Dec.{leb}
 use Rattle.error.specs.Refusal.{Told, yes, no}
 use Rattle.splitter.specs.declared.FrameSplitter.{FrameSplitter}
 use Rattle.splitter.specs.declared.Fed.{Fed}
-use Rattle.splitter.specs.Feed.{Answer, more, overlong, frame, toldEvent, shown, feedRule}
+use Rattle.splitter.specs.Feed.{Answer, more, overlong, frame, toldEvent, feedRule, givenBy}
 use Rattle.view.specs.View.{viewRule}
 
 -- an answer as the caller has it: a frame with the bytes that `view` shows, a refusal by its number and values
@@ -37,7 +37,7 @@ call x a = record { took = x; said = a }
 -- the hold buffer h′ after it are any that the contract of `feed` allows.
 pub data Calls : FrameSplitter → List ℕ → List ℕ → List Call → FrameSplitter → List ℕ → Type 0 where
   done : {s : FrameSplitter} {h : List ℕ} → Calls s h [] [] s h
-  next : {s s″ : FrameSplitter} {h h″ b : List ℕ} {t : List Call} (n : ℕ) (r : Fed) (h′ : List ℕ) → shown r h′ ≡ feedRule s h (take n b)
+  next : {s s″ : FrameSplitter} {h h″ b : List ℕ} {t : List Call} (n : ℕ) (r : Fed) (h′ : List ℕ) → givenBy r h′ ≡ feedRule s h (take n b)
       → Calls (r .splitter) h′ (drop (r .taken) b) t s″ h″
       → Calls s h b (call (take (r .taken) b) (saidOf (take n b) h′ (toldEvent (r .event))) ∷ t) s″ h″
 
@@ -45,7 +45,7 @@ pub data Calls : FrameSplitter → List ℕ → List ℕ → List Call → Frame
 pub data Feeds : FrameSplitter → List ℕ → List (List ℕ) → List Call → FrameSplitter → List ℕ → Type 0 where
   done : {s : FrameSplitter} {h : List ℕ} → Feeds s h [] [] s h
   used : {s s″ : FrameSplitter} {h h″ : List ℕ} {cs : List (List ℕ)} {t : List Call} → Feeds s h cs t s″ h″ → Feeds s h ([] ∷ cs) t s″ h″
-  feed : {s s″ : FrameSplitter} {h h″ c : List ℕ} {cs : List (List ℕ)} {t : List Call} (r : Fed) (h′ : List ℕ) → shown r h′ ≡ feedRule s h c
+  feed : {s s″ : FrameSplitter} {h h″ c : List ℕ} {cs : List (List ℕ)} {t : List Call} (r : Fed) (h′ : List ℕ) → givenBy r h′ ≡ feedRule s h c
       → Feeds (r .splitter) h′ (drop (r .taken) c ∷ cs) t s″ h″
       → Feeds s h (c ∷ cs) (call (take (r .taken) c) (saidOf c h′ (toldEvent (r .event))) ∷ t) s″ h″
 

@@ -14,7 +14,7 @@ use Rattle.error.specs.Refusal.{yes, onYes}
 use Rattle.general.proofs.Cases.{by-test, by-eq}
 use Rattle.stuffing.specs.Stuff.{escapeOf, unescapeOf, stuffByte, stuff}
 use Rattle.unstuffing.specs.Proper.{widthOf}
-use Rattle.unstuffing.specs.Unstuff.{escapeAt, stepAt, after, unstuff, bytesOf, offsetAt}
+use Rattle.unstuffing.specs.Unstuff.{escapeAt, stepAt, after, unstuff, offsetAt, unitBytes}
 use Rattle.stuffing.proofs.Codes.{plain, escaped, unescape-escape}
 
 -- ---- a step of unstuffing
@@ -75,16 +75,16 @@ pub unstuff-stuff : (i : ℕ) (l : List ℕ) → unstuff i (stuff l) ≡ yes (pl
 unstuff-stuff i [] = refl
 unstuff-stuff i (b ∷ l) = unstuff-one i b (stuff l) ∙ ap (after i (yes b)) (unstuff-stuff (i + length (stuffByte b)) l)
 
-pub bytes-placed : (i : ℕ) (l : List ℕ) → bytesOf (placed i l) ≡ l
+pub bytes-placed : (i : ℕ) (l : List ℕ) → unitBytes (placed i l) ≡ l
 bytes-placed i [] = refl
 bytes-placed i (b ∷ l) = ap (λ (r : List ℕ). b ∷ r) (bytes-placed (i + length (stuffByte b)) l)
 
-pub unstuffed : (i : ℕ) (l : List ℕ) → onYes bytesOf (unstuff i (stuff l)) ≡ yes l
+pub unstuffed : (i : ℕ) (l : List ℕ) → onYes unitBytes (unstuff i (stuff l)) ≡ yes l
 unstuffed i l = rw (unstuff-stuff i l, bytes-placed i l)
 
 pub stuff-apart : (s t : List ℕ) → stuff s ≡ stuff t → s ≡ t
 stuff-apart s t e =
-    let q : yes s ≡ yes t = sym (unstuffed 0 s) ∙ ap (λ (l : List ℕ). onYes bytesOf (unstuff 0 l)) e ∙ unstuffed 0 t in
+    let q : yes s ≡ yes t = sym (unstuffed 0 s) ∙ ap (λ (l : List ℕ). onYes unitBytes (unstuff 0 l)) e ∙ unstuffed 0 t in
     cc
 
 pub length-placed : (i : ℕ) (l : List ℕ) → length (placed i l) ≡ length l

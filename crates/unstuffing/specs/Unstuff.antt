@@ -31,8 +31,8 @@ unstuff i (b ∷ []) = after i (stepAt i b []) (yes [])
 unstuff i (b ∷ c ∷ l) = after i (stepAt i b (c ∷ l)) (cond (eqb b 0xFD) (unstuff (i + 2) l) (unstuff (i + 1) (c ∷ l)))
 
 -- the unstuffed bytes without their offsets; the one with number k, and its offset
-abbrev pub bytesOf : List (ℕ × ℕ) → List ℕ
-bytesOf us = map (λ (u : ℕ × ℕ). u .0) us
+abbrev pub unitBytes : List (ℕ × ℕ) → List ℕ
+unitBytes us = map (λ (u : ℕ × ℕ). u .0) us
 
 abbrev pub byteAt : List (ℕ × ℕ) → ℕ → ℕ
 byteAt us k = getD us k (0, 0) .0

@@ -72,7 +72,7 @@ returns : tie.Need-returns
 returns c =
     let e = c .before .before .before .event2 .given in
     let f = c .before .before .before .before .before .before .before .before in
-    (refuses (e .0 .0) (left f (e .1)) _ _ (c .tell .ensures), ap (λ (g : Given). g .held) (f .feed .ensures))
+    (refuses (e .0 .0) (left f (e .1)) _ _ (c .tell .ensures), ap (λ (g : Given). g .hold) (f .feed .ensures))
 
 keep-requires : tie.Need-keep-requires
 keep-requires c κs = search needs
@@ -83,7 +83,7 @@ same-length-2 c = search needs
 returns-2 : tie.Need-returns-2
 returns-2 c =
     let f = c .before .before .before .before .before .before .before in
-    (rw (c .keep .ensures .0, c .keep .ensures .1) (passed (leaves (c .before .before .before)) _ _), ap (λ (g : Given). g .held) (f .feed .ensures))
+    (rw (c .keep .ensures .0, c .keep .ensures .1) (passed (leaves (c .before .before .before)) _ _), ap (λ (g : Given). g .hold) (f .feed .ensures))
 
 pub mvd-feed-spec : {M : Type 1} → statement M
 mvd-feed-spec =

@@ -10,7 +10,7 @@ use mir.Syntax.{w32}
 use Rattle.error.specs.Refusal.{yes}
 use Rattle.integer_write.specs.Writing.{intBytes, written}
 use Rattle.layout.proofs.Held.{held}
-use Rattle.bay_log.specs.Log.{fieldsOf, logRule}
+use Rattle.bay_log.specs.Log.{logRule, logFields}
 use Rattle.bay_log.proofs.Record.{record-laid}
 use Rattle.bay_log.proofs.write_record.Statement.{statement}
 use Rattle.bay_log.proofs.write_record.Tie as tie
@@ -42,7 +42,7 @@ unfolding tests
 start w9 = tests w9 .before .before .before .before
 
 -- the buffer after the nine fields
-ended : (w9 : tie.After-write-int32) → w9 .write-int32 .last .0 ≡ sets (start w9 .args .buf .now) 0 (flatten (fieldsOf (start w9 .args .event) (start w9 .args .payload .now)))
+ended : (w9 : tie.After-write-int32) → w9 .write-int32 .last .0 ≡ sets (start w9 .args .buf .now) 0 (flatten (logFields (start w9 .args .event) (start w9 .args .payload .now)))
 unfolding start tests first
 ended w9 =
     let i9 = w9 .before in
@@ -70,7 +70,7 @@ unfolding start tests first
 same-length c =
     let w9 = c .before .before in
     let a = start w9 .args in
-    ap length (ended w9) ∙ length-sets (a .buf .now) 0 (flatten (fieldsOf (a .event) (a .payload .now)))
+    ap length (ended w9) ∙ length-sets (a .buf .now) 0 (flatten (logFields (a .event) (a .payload .now)))
 
 returns-3 : tie.Need-returns-3
 unfolding logRule start tests first

@@ -8,7 +8,7 @@ use Rattle.error.specs.Refusal.{numberOf, valuesOf}
 use Rattle.frame.specs.declared.ResultRawFrame.{ResultRawFrame}
 use Rattle.frame.specs.Rule.{toldRawFrame}
 use Rattle.report.specs.Text.{decimalOf}
-use Rattle.report.specs.Line.{spaced, saidOf}
+use Rattle.report.specs.Line.{spaced, resultWords}
 use Rattle.report.specs.Put.{Put}
 use Rattle.report.proofs.Stores.{put-then, put-length}
 use Rattle.report.proofs.Values.{valuesText}
@@ -22,7 +22,7 @@ use Rattle.report.proofs.put_said.Tie as tie
 ok-room : (c : tie.After-parsed) → let a = c .before .before .before .args in a .at + (length (decimalOf (c .parsed .given .0 .0 .len)) + 13) ≤ length (a .out .now)
 ok-room c =
     let g = c .parsed .given in
-    let e = ap (λ (x : ResultRawFrame). length (spaced (saidOf (toldRawFrame x)))) (g .1) ∙ sym (ok-width (g .0 .0)) in
+    let e = ap (λ (x : ResultRawFrame). length (spaced (resultWords (toldRawFrame x)))) (g .1) ∙ sym (ok-width (g .0 .0)) in
     omega (arith, e, c .before .before .before .pre)
 
 no-room :
@@ -32,7 +32,7 @@ no-room :
     a .at + (length (decimalOf (numberOf e)) + length (valuesText (valuesOf e)) + 4) ≤ length (a .out .now)
 no-room c =
     let g = c .parsed2 .given in
-    let e = ap (λ (x : ResultRawFrame). length (spaced (saidOf (toldRawFrame x)))) (g .1) ∙ sym (no-width (numberOf (g .0 .0)) (valuesOf (g .0 .0))) in
+    let e = ap (λ (x : ResultRawFrame). length (spaced (resultWords (toldRawFrame x)))) (g .1) ∙ sym (no-width (numberOf (g .0 .0)) (valuesOf (g .0 .0))) in
     omega (arith, e, c .before .before .before .pre)
 
 -- `NO` and the refusal's number
@@ -103,7 +103,7 @@ returns c =
     let t = f .before .before .before .before in
     let p = t .before .before .before .before in
     let a = p .before .before .before .args in
-    subst (λ (x : ResultRawFrame). Put (spaced (saidOf (toldRawFrame x))) (a .out .now) (a .at) (f .put-fields .result) (f .put-fields .last .1 .0))
+    subst (λ (x : ResultRawFrame). Put (spaced (resultWords (toldRawFrame x))) (a .out .now) (a .at) (f .put-fields .result) (f .put-fields .last .1 .0))
     (sym (p .parsed .given .1))
     (put-then (t .put-text .ensures) (f .put-fields .ensures))
 
@@ -116,7 +116,7 @@ returns-2 c =
     let n = v .before .before .before .before in
     let p = refused n in
     let a = p .before .before .before .args in
-    subst (λ (x : ResultRawFrame). Put (spaced (saidOf (toldRawFrame x))) (a .out .now) (a .at) (v .put-values .result) (v .put-values .last .1 .0))
+    subst (λ (x : ResultRawFrame). Put (spaced (resultWords (toldRawFrame x))) (a .out .now) (a .at) (v .put-values .result) (v .put-values .last .1 .0))
     (sym (p .parsed2 .given .1))
     (put-then (to-number n) (v .put-values .ensures))
 

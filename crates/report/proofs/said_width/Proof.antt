@@ -7,7 +7,7 @@ use Rattle.error.specs.Refusal.{no, numberOf, valuesOf}
 use Rattle.frame.specs.declared.ResultRawFrame.{ResultRawFrame}
 use Rattle.frame.specs.Rule.{toldRawFrame}
 use Rattle.report.specs.Text.{decimalOf}
-use Rattle.report.specs.Line.{spaced, saidOf}
+use Rattle.report.specs.Line.{spaced, resultWords}
 use Rattle.report.proofs.Decimal.{decimal-most}
 use Rattle.report.proofs.Lines.{ok-width, no-width}
 use borrow.Author.Needs.{needs}
@@ -47,7 +47,7 @@ add-result-3 c = search needs
 returns : tie.Need-returns
 returns c =
     let g = c .before .before .parsed .given in
-    let s = sym (ap (λ (x : ResultRawFrame). length (spaced (saidOf (toldRawFrame x)))) (g .1)) in
+    let s = sym (ap (λ (x : ResultRawFrame). length (spaced (resultWords (toldRawFrame x)))) (g .1)) in
     (ap (λ (k : ℕ). k + 13) (c .digits .ensures .0) ∙ ok-width (g .0 .0) ∙ s, omega (arith, c .digits .ensures .1))
 
 returns-2 : tie.Need-returns-2
@@ -55,10 +55,10 @@ returns-2 c =
     let d = c .before in
     let n = d .before in
     let g = n .before .before .parsed2 .given in
-    let s = sym (ap (λ (x : ResultRawFrame). length (spaced (saidOf (toldRawFrame x)))) (g .1)) in
+    let s = sym (ap (λ (x : ResultRawFrame). length (spaced (resultWords (toldRawFrame x)))) (g .1)) in
     let k : d .digits2 .result ≡ length (decimalOf (numberOf (g .0 .0))) = d .digits2 .ensures .0 ∙ ap (λ (m : ℕ). length (decimalOf m)) (n .number .ensures) in
     let l : length (decimalOf (n .number .result)) ≤ 3 = decimal-most 2 (n .number .result) (omega (arith, n .number .ok)) in
-    let w : d .digits2 .result + c .values-width .result + 4 ≡ length (spaced (saidOf (no (numberOf (g .0 .0)) (valuesOf (g .0 .0))))) =
+    let w : d .digits2 .result + c .values-width .result + 4 ≡ length (spaced (resultWords (no (numberOf (g .0 .0)) (valuesOf (g .0 .0))))) =
     omega (arith, no-width (numberOf (g .0 .0)) (valuesOf (g .0 .0)), k, c .values-width .ensures .0)
     in
     (w ∙ s, omega (arith, l, d .digits2 .ensures .0, c .values-width .ensures .1))

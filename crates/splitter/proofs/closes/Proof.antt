@@ -6,7 +6,7 @@ use Prim.Native.Nat.{_-_, _≤_}
 use native.Mathlib.Omega.{arith}
 use lib.ListN.{length}
 use borrow.Author.Tests.{not-true, not-false}
-use Rattle.splitter.specs.Feed.{total, isKept}
+use Rattle.splitter.specs.Feed.{isKept, lengthWith}
 use Rattle.splitter.proofs.Laws.{kept-is, ends-lost, ends-shown, ends-held}
 use borrow.Author.Needs.{needs}
 use Rattle.splitter.proofs.closes.Statement.{statement}
@@ -54,7 +54,7 @@ lay-requires : tie.Need-lay-requires
 lay-requires c κs =
     let e = c .before .before .before in
     let a = e .before .before .before .before .args in
-    let f : total (a .s) (a .to - a .from) ≤ length (a .hold .now) = kept-is (a .s) (length (a .hold .now)) (a .to - a .from) (kept e) .1 in
+    let f : lengthWith (a .s) (a .to - a .from) ≤ length (a .hold .now) = kept-is (a .s) (length (a .hold .now)) (a .to - a .from) (kept e) .1 in
     omega arith
 
 add-t9 : tie.Need-add-t9

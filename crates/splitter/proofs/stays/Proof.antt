@@ -6,7 +6,7 @@ use Prim.Native.Nat.{_-_, _≤_}
 use native.Mathlib.Omega.{arith}
 use lib.ListN.{length}
 use borrow.Author.Tests.{not-true, not-false}
-use Rattle.splitter.specs.Feed.{total, isKept}
+use Rattle.splitter.specs.Feed.{isKept, lengthWith}
 use Rattle.splitter.proofs.Laws.{kept-is, goes-lost, goes-held}
 use borrow.Author.Needs.{needs}
 use Rattle.splitter.proofs.stays.Statement.{statement}
@@ -40,7 +40,7 @@ lay-requires : tie.Need-lay-requires
 lay-requires c κs =
     let e = c .before .before in
     let a = e .before .before .before .before .args in
-    let f : total (a .s) (length (a .chunk .now) - a .from) ≤ length (a .hold .now) = kept-is (a .s) (length (a .hold .now)) (length (a .chunk .now) - a .from) (kept e) .1 in
+    let f : lengthWith (a .s) (length (a .chunk .now) - a .from) ≤ length (a .hold .now) = kept-is (a .s) (length (a .hold .now)) (length (a .chunk .now) - a .from) (kept e) .1 in
     omega arith
 
 add-t9 : tie.Need-add-t9
