@@ -1,2 +1,3 @@
 -- What blocks are proved by.
 pub mod Blocks
+pub mod One

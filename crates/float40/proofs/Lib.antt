@@ -4,4 +4,4 @@ pub mod Pow2
 pub mod Over
 pub mod Value
 pub mod Part
-pub mod Unique
+pub mod One

@@ -4,4 +4,4 @@ pub mod Means
 pub mod Five
 pub mod Back
 pub mod Examples
-pub mod Unique
+pub mod One

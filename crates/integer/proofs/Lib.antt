@@ -3,4 +3,4 @@ pub mod BigEndian
 pub mod Complement
 pub mod Casts
 pub mod Reading
-pub mod Unique
+pub mod One

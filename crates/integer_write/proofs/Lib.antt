@@ -5,4 +5,4 @@ pub mod Bias
 pub mod Stores
 pub mod Cases
 pub mod Back
-pub mod Unique
+pub mod One

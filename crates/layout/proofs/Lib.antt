@@ -3,3 +3,4 @@ pub mod Held
 pub mod Lengths
 pub mod Parts
 pub mod Spread
+pub mod One
