@@ -1,5 +1,5 @@
 -- Two replies that a contract of `float40` allows for one input are equal, by the contract as the check reads it off src/ (`Post`).
--- A FLOAT40 is never a NaN, so its bits are decided too.
+-- Of a float the contract tells the value: all NaNs are one `Float`.
 use mathlib.Core.Path.{_≡_}
 use Rattle.general.proofs.One.{plain}
 use Rattle.error.proofs.Decides.{one-f64}

@@ -3,5 +3,6 @@ pub mod Apart
 pub mod Means
 pub mod Five
 pub mod Back
+pub mod FloatBack
 pub mod Examples
 pub mod One
