@@ -1,4 +1,5 @@
 -- The laws of FLOAT40 read.
+-- `Value` is the one to read: what every exponent and mantissa stand for.
 pub mod Signed
 pub mod Pow2
 pub mod Over

@@ -1,5 +1,5 @@
 -- What is written reads back, over the 64 bits b: a normal number as exactly m * 2 ^ (e - 23), a subnormal one with the leading one added,
--- an infinity or a NaN as an infinity, both zeros as +0.0; `told-back` says it through a buffer. Assumes nothing.
+-- an infinity or a NaN as an infinity, both zeros as +0.0; `told-back` says it through a buffer, `FloatBack` of an f64.
 use Prim.Native.Nat.{ℕ, zero, suc, _+_, _-_, _*_, _%_, _^_, _<_, _≤_}
 use mathlib.Core.Path.{_≡_, refl, sym, ap, subst, _∙_}
 use mathlib.Core.Bool.{Bool, true, false}

@@ -1,4 +1,5 @@
 -- The laws of FLOAT40 written, and read back.
+-- `Back` and `FloatBack` are the ones to read: what a read answers after a write.
 pub mod Apart
 pub mod Means
 pub mod Five

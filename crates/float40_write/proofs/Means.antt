@@ -1,5 +1,5 @@
 -- What the 64 bits stand for in binary64, by the parts that the writer takes: sign, exponent field and fraction.
--- So s = 2 ^ 52 + fraction is a normal number's significand, and a subnormal one has no leading one. Assumes nothing.
+-- So s = 2 ^ 52 + fraction is a normal number's significand, and a subnormal one has no leading one.
 use Prim.Native.Nat.{ℕ, zero, suc, _+_, _-_, _*_, _^_, _<_}
 use mathlib.Core.Path.{_≡_, sym, ap, subst, _∙_}
 use mathlib.Core.Bool.{Bool, true, false, cond}

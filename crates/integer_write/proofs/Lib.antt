@@ -1,4 +1,5 @@
 -- The laws of integer fields written, and read back, each once over the width.
+-- `One` says that each contract allows one reply and one buffer.
 pub mod Bits
 pub mod Bytes
 pub mod Bias

@@ -1,4 +1,5 @@
--- Laws of the reader: walks by hand (`Walk`), the reader's struct (`Held`), a move (`Moving`, `Move`), its callers (`Loan`, `Calls`), places (`Next`), replies (`One`).
+-- Laws of the reader: walks by hand (`Walk`), the reader's struct (`Held`), a move (`Moving`, `Move`), its callers (`Loan`, `Calls`),
+-- places (`Next`), replies (`One`).
 pub mod Walk
 pub mod Held
 pub mod Moving
