@@ -8,7 +8,7 @@ use lib.ListN.{length, set, length-set, length-append}
 use lib.Seq.{sets, length-sets}
 use Rattle.report.specs.Text.{decimalOf}
 use Rattle.report.proofs.Decimal.{decimal-small, decimal-large, length-small, length-large, decimal-some}
-use Rattle.report.proofs.Stores.{set-before}
+use Rattle.general.proofs.Stores.{set-before}
 use Rattle.report.proofs.put_decimal.Statement.{statement}
 use Rattle.report.proofs.put_decimal.Tie as tie
 
