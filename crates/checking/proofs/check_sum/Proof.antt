@@ -76,7 +76,7 @@ returns c =
     let y = h .checksum .ensures ∙ computed k in
     let off : receivedOf (us k) ≡ computedOf (S k) (us k) → ⊥ = λ q. c .if1 .taken (x ∙ q ∙ sym y) in
     let told : no 5 (h .before .before .received .result ∷ h .checksum .result ∷ []) ≡ no 5 (receivedOf (us k) ∷ computedOf (S k) (us k) ∷ []) =
-        λ j. no 5 (x j ∷ y j ∷ []) in
+    λ j. no 5 (x j ∷ y j ∷ []) in
     told ∙ sym (rule k (no 5 (receivedOf (us k) ∷ computedOf (S k) (us k) ∷ [])) (mismatch (us k) (S k) off))
 
 sub-check-head : tie.Need-sub-check-head
@@ -93,7 +93,7 @@ returns-2 c =
     let h = i .before in
     let k = h .before .before .before in
     let on : receivedOf (us k) ≡ computedOf (S k) (us k) =
-        sym (h .before .before .received .ensures ∙ received k) ∙ i .if1 .left ∙ (h .checksum .ensures ∙ computed k) in
+    sym (h .before .before .received .ensures ∙ received k) ∙ i .if1 .left ∙ (h .checksum .ensures ∙ computed k) in
     let n = k .before .before .args .n in
     c .check-head .ensures
     ∙ ap (λ (m : ℕ). andThen (unstuff 0 (take (at k) (S k))) (frontRule (n - 5) m)) (whole k)
