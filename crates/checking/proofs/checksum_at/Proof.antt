@@ -1,4 +1,4 @@
--- `cs_at` meets its contract: two unstuffed bytes are cut off at the end.
+-- `checksum_at` meets its contract: two unstuffed bytes are cut off at the end.
 use mathlib.Core.Path.{refl, sym}
 use Prim.Native.Nat.{_<_, _≤_}
 use native.Mathlib.Omega.{arith}
@@ -8,8 +8,8 @@ use Rattle.unstuffing.proofs.Proper.{kept-most}
 use Rattle.unstuffing.proofs.Parting.{cutOf}
 use Rattle.checking.specs.Walk.{Ends}
 use Rattle.checking.proofs.Reading.{ends}
-use Rattle.checking.proofs.cs_at.Statement.{statement}
-use Rattle.checking.proofs.cs_at.Tie as tie
+use Rattle.checking.proofs.checksum_at.Statement.{statement}
+use Rattle.checking.proofs.checksum_at.Tie as tie
 
 -- wherever the second cut is
 cuts : (c : tie.After-cut) → (c .cut .result < length (c .before .before .args .s .now)) × (2 ≤ c .cut .result) × (Ends (c .before .before .args .s .now) (cutOf (take (c .cut .result) (c .before .before .args .s .now))))
@@ -37,5 +37,5 @@ returns c =
     let a = k .before .before in
     ends (a .args .s .now) (k .cut .result) (c .cut2 .result) (a .pre .0) (a .pre .1) (k .cut .ensures) (c .cut2 .ensures) .2
 
-pub cs-at-spec : {M : Type 1} → statement M
-cs-at-spec = tie.close (tie.spec cut-requires slice-aggregate-cut cut-requires-2 returns)
+pub checksum-at-spec : {M : Type 1} → statement M
+checksum-at-spec = tie.close (tie.spec cut-requires slice-aggregate-cut cut-requires-2 returns)
