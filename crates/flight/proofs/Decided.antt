@@ -11,6 +11,7 @@ use mir.Syntax.{w32}
 use mir.Val.{toZ, ofZ, hbits}
 use borrow.Author.Tests.{lt-ltb, le-ltb}
 use Rattle.error.specs.Refusal.{yes, refused}
+use Rattle.error.specs.declared.WireError.{WireError}
 use Rattle.error.specs.declared.WireError.the-variants.{PayloadTooShort}
 use Rattle.layout.specs.Layout.{answered}
 use Rattle.layout.proofs.Held.{held}
@@ -22,12 +23,10 @@ use Rattle.flight.specs.Decoding.{Numbers, zeros, numbersIn, decodeRule,
 use Rattle.flight.proofs.Ruled.{figured, ruled}
 
 module _ {A : Type 0} (m : Message) (fill : Numbers → A) (p : List ℕ) {r : A} where
-  pub short : length p < shapeOf m .least → r ≡ fill zeros
-      → (refused (PayloadTooShort (shapeOf m .kind) (shapeOf m .least) (length p)), r) ≡ decodeRule m fill p
+  pub short : {e : WireError} → length p < shapeOf m .least → e ≡ PayloadTooShort (shapeOf m .kind) (shapeOf m .least) (length p)
+      → r ≡ fill zeros → (refused e, r) ≡ decodeRule m fill p
   unfolding decodeRule answered
-  short h e =
-      simp (lt-ltb (length p) (shapeOf m .least) h)
-      (λ i. (refused (PayloadTooShort (shapeOf m .kind) (shapeOf m .least) (length p)), e i))
+  short h e z = simp (lt-ltb (length p) (shapeOf m .least) h) (λ i. (refused (e i), z i))
 
   pub whole : shapeOf m .least ≤ length p → ((N : Numbers) → fill N ≡ fill (figured m N))
       → {s : Float} → s ≡ scaleOf m p → r ≡ fill (numbersIn m p divisors s) → (yes tt, r) ≡ decodeRule m fill p

@@ -3,6 +3,7 @@
 ghost use mathlib.Core.Path.{_≡_};
 ghost use Prim.Native.Nat.{_≤_};
 ghost use lib.ListN.{length};
+ghost use Rattle.numbers.specs.Numbers.{shapeOf};
 ghost use Rattle.flight.specs.Decoding.{decodeRule, numbersIn, zeros};
 ghost use Rattle.flight.specs.ClubResultFields.{clubResult, toldClubResult};
 use crate::figures::figure_at;
@@ -12,6 +13,7 @@ use error::WireError;
 use integer::byte_at;
 use integer::int24_at;
 use numbers::DIVISORS;
+use numbers::ED;
 use numbers::Message;
 use numbers::scale;
 
@@ -74,13 +76,9 @@ impl ClubResult {
         ensures { λ r. ⌜ toldClubResult r ≡ decodeRule Message.ClubResult clubResult (now (payload .entry)) ⌝ }
     {
         let got = payload.len();
-        if got < 167 {
+        if got < ED.least {
             return ResultClubResult {
-                result: ResultUnit::Err(WireError::PayloadTooShort {
-                    kind: 0xED,
-                    need: 167,
-                    got,
-                }),
+                result: ResultUnit::Err(WireError::payload_too_short(ED.kind, ED.least, got)),
                 record: ClubResult::zero(),
             };
         }
@@ -94,7 +92,7 @@ impl ClubResult {
 
     // The record of a payload that is long enough, by these divisors and this scale: place and entry stand as numbers.
     fn of(p: &[u8], by: &[u32; 138], s: f64) -> ClubResult
-        requires { ⌜ 167 ≤ length (now p) ⌝ }
+        requires { ⌜ shapeOf Message.ClubResult .least ≤ length (now p) ⌝ }
         ensures { λ r. ⌜ r ≡ clubResult (numbersIn Message.ClubResult (now (p .entry)) (now (by .entry)) s) ⌝ }
     {
         ClubResult {

@@ -3,6 +3,7 @@
 ghost use mathlib.Core.Path.{_≡_};
 ghost use Prim.Native.Nat.{_≤_};
 ghost use lib.ListN.{length};
+ghost use Rattle.numbers.specs.Numbers.{shapeOf};
 ghost use Rattle.flight.specs.Decoding.{decodeRule, numbersIn, zeros};
 ghost use Rattle.flight.specs.FlightResultFields.{flightResult, toldFlightResult};
 ghost use Rattle.flight.specs.Failure.{modelFailure};
@@ -13,6 +14,7 @@ use error::ResultUnit;
 use error::WireError;
 use failure::no_speed;
 use integer::int24_at;
+use numbers::D4;
 use numbers::DIVISORS;
 use numbers::Message;
 use numbers::scale;
@@ -107,13 +109,9 @@ impl FlightResult {
         ensures { λ r. ⌜ toldFlightResult r ≡ decodeRule Message.FlightResult flightResult (now (payload .entry)) ⌝ }
     {
         let got = payload.len();
-        if got < 157 {
+        if got < D4.least {
             return ResultFlightResult {
-                result: ResultUnit::Err(WireError::PayloadTooShort {
-                    kind: 0xD4,
-                    need: 157,
-                    got,
-                }),
+                result: ResultUnit::Err(WireError::payload_too_short(D4.kind, D4.least, got)),
                 record: FlightResult::zero(),
             };
         }
@@ -127,7 +125,7 @@ impl FlightResult {
 
     // The record of a payload that is long enough, by these divisors and this scale: place and entry stand as numbers.
     fn of(p: &[u8], by: &[u32; 138], s: f64) -> FlightResult
-        requires { ⌜ 157 ≤ length (now p) ⌝ }
+        requires { ⌜ shapeOf Message.FlightResult .least ≤ length (now p) ⌝ }
         ensures { λ r. ⌜ r ≡ flightResult (numbersIn Message.FlightResult (now (p .entry)) (now (by .entry)) s) ⌝ }
     {
         FlightResult {

@@ -3,6 +3,7 @@
 ghost use mathlib.Core.Path.{_≡_};
 ghost use Prim.Native.Nat.{_≤_};
 ghost use lib.ListN.{length};
+ghost use Rattle.numbers.specs.Numbers.{shapeOf};
 ghost use Rattle.flight.specs.Decoding.{decodeRule, numbersIn, zeros};
 ghost use Rattle.flight.specs.FlightResultV1Fields.{flightResultV1, toldFlightResultV1};
 ghost use Rattle.flight.specs.Failure.{noRead};
@@ -13,6 +14,7 @@ use error::WireError;
 use failure::no_speed;
 use integer::int24_at;
 use numbers::DIVISORS;
+use numbers::E8;
 use numbers::Message;
 use numbers::scale;
 
@@ -78,13 +80,9 @@ impl FlightResultV1 {
         ensures { λ r. ⌜ toldFlightResultV1 r ≡ decodeRule Message.FlightResultV1 flightResultV1 (now (payload .entry)) ⌝ }
     {
         let got = payload.len();
-        if got < 94 {
+        if got < E8.least {
             return ResultFlightResultV1 {
-                result: ResultUnit::Err(WireError::PayloadTooShort {
-                    kind: 0xE8,
-                    need: 94,
-                    got,
-                }),
+                result: ResultUnit::Err(WireError::payload_too_short(E8.kind, E8.least, got)),
                 record: FlightResultV1::zero(),
             };
         }
@@ -98,7 +96,7 @@ impl FlightResultV1 {
 
     // The record of a payload that is long enough, by these divisors and this scale: place and entry stand as numbers.
     fn of(p: &[u8], by: &[u32; 138], s: f64) -> FlightResultV1
-        requires { ⌜ 94 ≤ length (now p) ⌝ }
+        requires { ⌜ shapeOf Message.FlightResultV1 .least ≤ length (now p) ⌝ }
         ensures { λ r. ⌜ r ≡ flightResultV1 (numbersIn Message.FlightResultV1 (now (p .entry)) (now (by .entry)) s) ⌝ }
     {
         FlightResultV1 {

@@ -2,7 +2,7 @@
 -- whole where its rule's code is 0, as a figure otherwise.
 use mathlib.Core.Path.{_≡_, refl}
 use mathlib.Core.Bool.{true, false}
-use Prim.Native.Nat.{ℕ, _<_, _≤_}
+use Prim.Native.Nat.{ℕ, _+_, _*_, _<_, _≤_}
 use native.Mathlib.Omega.{arith}
 use lib.IntN.{ℤ, pos, negsuc}
 use lib.Signed.{ltZ}
@@ -35,6 +35,12 @@ above-same (pos n) e = let h : 1 ≤ n = ltb-false n 1 e in simp (ne-eqb n 0 (λ
 above-same (negsuc n) e = let z : _≡_ {A = ℕ} 0 1 = cc in absurd (omega arith)
 
 -- ---- the shapes
+
+-- a message that is long enough has all its numbers, and nothing behind them is asked for
+pub full : (m : Message) → shapeOf m .least ≡ shapeOf m .base + 3 * countOf m
+full FlightResult = refl
+full FlightResultV1 = refl
+full ClubResult = refl
 
 pub scale-inside : (m : Message) → shapeOf m .scale < countOf m
 scale-inside FlightResult = omega arith
