@@ -12,7 +12,8 @@ returns : tie.Need-returns
 returns c =
     let e = c .before in
     let l = e .before in
-    short message.ClubResult clubResult (l .before .before .before .args .payload .now) (l .if1 .taken) (e .payload-too-short .ensures) (c .zero .ensures)
+    short message.ClubResult clubResult (l .before .before .before .args .payload .now)
+    (l .if1 .taken) (e .payload-too-short .ensures) (c .zero .ensures)
 
 returns-2 : tie.Need-returns-2
 unfolding wholeOf ruleOf
