@@ -15,7 +15,8 @@ use Rattle.numbers.specs.declared.Message.{Message}
 use Rattle.numbers.specs.declared.Message.the-variants.{FlightResult, FlightResultV1, ClubResult}
 use Rattle.numbers.specs.Numbers.{countOf, wholeOf, ruleOf, ruleCode, scaleOf, to}
 use Rattle.numbers.proofs.Divisors.{divisors, listed, kept}
-use Rattle.flight.specs.Decoding.{Numbers, numbersOf, numbersIn, entryAt}
+use Rattle.flight.specs.Decoding.{Numbers, numbersOf}
+use Rattle.flight.specs.ByList.{numbersIn, entryAt}
 
 -- the 36 coefficients of ED have one rule: one computed test over its 55 numbers
 shared : (n : ℕ) → n < 55 → ruleCode (ruleOf ClubResult (cond (to 16 51 n) 16 n)) ≡ ruleCode (ruleOf ClubResult n)
