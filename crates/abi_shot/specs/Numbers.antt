@@ -4,9 +4,9 @@ use Prim.Native.Nat.{ℕ}
 use mathlib.Core.List.{List, [], _∷_}
 use lib.IntN.{ℤ, pos}
 use lib.Ieee.{Float}
-use Rattle.prc.specs.declared.PrcPoint.{PrcPoint}
-use Rattle.prc.specs.declared.PrcData.{PrcData}
-use Rattle.club_prc.specs.declared.ClubPrcPoint.{ClubPrcPoint}
+use Rattle.prc.specs.declared.prc_point.PrcPoint.{PrcPoint}
+use Rattle.prc.specs.declared.prc_data.PrcData.{PrcData}
+use Rattle.club_prc.specs.declared.club_prc_point.ClubPrcPoint.{ClubPrcPoint}
 
 abbrev pub dataNumbers : PrcData → ℤ × ℕ
 dataNumbers d = (d .sequence, d .points)

@@ -1,7 +1,6 @@
 // EC, EE and E5 for C: each call is the function of that name, a record's numbers in lent places.
 // What it tells, and every lent place, is that function's rule; specs/ says what stands where.
 ghost use mathlib.Core.Path.{_≡_};
-ghost use Prim.Native.Nat.{min};
 ghost use lib.ListN.{length};
 ghost use Rattle.error.specs.Refusal.{yes, onYes};
 ghost use Rattle.integer_write.specs.Writing.{writing, written};
@@ -22,6 +21,7 @@ use abi::wide;
 use club_prc::ClubPrc;
 use club_prc::ClubPrcPoint;
 use error::ResultUnit;
+use points::least;
 use prc::PrcData;
 use prc::PrcPoint;
 use prc::ResultPrcData;
@@ -163,12 +163,6 @@ fn lay(xs: &[u8], out: &mut [u8])
         out[i] = xs[i];
         i += 1;
     }
-}
-
-fn least(a: usize, b: usize) -> usize
-    ensures { λ r. ⌜ r ≡ min a b ⌝ }
-{
-    if a < b { a } else { b }
 }
 
 fn prc_whole(p: PrcPoint) -> [i32; 8]
