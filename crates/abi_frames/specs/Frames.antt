@@ -10,6 +10,7 @@ use Rattle.frame.specs.declared.RawFrame.{RawFrame}
 use Rattle.frame.specs.Wire.{fields}
 use Rattle.frame.specs.Rule.{encodeRule}
 use Rattle.splitter.specs.declared.FrameSplitter.{FrameSplitter}
+use Rattle.splitter.specs.declared.Place.{Place}
 use Rattle.splitter.specs.Feed.{Answer, more, overlong, frame, Given}
 use Rattle.abi.specs.Answer.{flagOf}
 
@@ -17,7 +18,7 @@ use Rattle.abi.specs.Answer.{flagOf}
 abbrev pub wordsOf : RawFrame → List ℕ
 wordsOf f = byteOf (f .dest) ∷ byteOf (f .src) ∷ f .«type_id» ∷ f .len ∷ []
 
--- the wire of a frame; DEST is tested, andThen SRC (6)
+-- the wire of a frame; DEST is tested, then SRC (6)
 abbrev pub encodedOf : ℕ → ℕ → ℕ → List ℕ → ℕ → Told (List ℕ)
 encodedOf dest src type payload room =
     andThen (addressRule dest) (λ d. andThen (addressRule src) (λ s. encodeRule (fields d s type payload) room))
@@ -26,7 +27,7 @@ abbrev pub stateOf : ℕ → ℕ → FrameSplitter
 stateOf count mark = record { count = count; skipping = not (eqb mark 0) }
 
 -- which event, the bytes taken, and of a frame: whether it lies in the hold, its start and its length
-unfoldable pub fedOf : ℕ → Answer → List ℕ
+unfoldable pub fedOf : ℕ → Answer Place → List ℕ
 fedOf taken more = 0 ∷ taken ∷ 0 ∷ 0 ∷ 0 ∷ []
 fedOf taken (frame p) = 1 ∷ taken ∷ flagOf (p .«in_hold») ∷ p .start ∷ p .len ∷ []
 fedOf taken overlong = 2 ∷ taken ∷ 0 ∷ 0 ∷ 0 ∷ []

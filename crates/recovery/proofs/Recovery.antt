@@ -9,8 +9,10 @@ use lib.ListN.{length, length-append, length-replicate}
 use Rattle.general.proofs.Cases.{by-test}
 use Rattle.splitter.specs.declared.FrameSplitter.{FrameSplitter}
 use Rattle.search.specs.First.{indexOf}
-use Rattle.splitter.specs.Feed.{new}
-use Rattle.stream.specs.Stream.{Said, More, Overlong, Frame, Call, Calls, Feeds, joined, takenBy, heard, answerTo}
+use Rattle.splitter.specs.Feed.{new, more, overlong, frame}
+use Rattle.error.specs.Refusal.{yes}
+use Rattle.stream.specs.Stream.{Said, Call, Calls, Feeds, joined, takenBy, answerTo}
+use Rattle.stream.specs.Heard.{heard}
 use Rattle.stream.specs.Rust.{turns}
 use Rattle.stream.proofs.Line.{opened, hear, silence, hear-append, hear-length}
 use Rattle.stream.proofs.Calls.{stands-fresh}
@@ -27,15 +29,15 @@ use Rattle.recovery.proofs.Wires.{open-after, Over, over-wire, fits-sai
 -- ---- a wire's answer falls at its end
 
 module _ (H : ℕ) where
-  not-more : (w : List ℕ) → answerTo H w ≡ More → ⊥
+  not-more : (w : List ℕ) → answerTo H w ≡ yes more → ⊥
   not-more w e =
       by-test (leb (length w) H)
       (λ b.
-      let z : Frame w ≡ More = rw b at e in
+      let z : yes (frame w) ≡ yes more = rw b at e in
       let n : _≡_ {A = ℕ} 0 1 = cc in
       omega arith)
       (λ b.
-      let z : Overlong ≡ More = rw b at e in
+      let z : yes overlong ≡ yes more = rw b at e in
       let n : _≡_ {A = ℕ} 0 1 = cc in
       omega arith)
 
@@ -68,7 +70,7 @@ module _ (H : ℕ) where
       spoken-append (hear H [] noise) (silence (length m)) ∙ rw (spoken-silence (length m), append-nil) (says-alone noise) in
       let v : noise ++ w ≡ (noise ++ m) ++ (0xF1 ∷ []) = rw (k .is) (sym (append-assoc noise m (0xF1 ∷ []))) in
       let n : length (noise ++ w) ≡ suc (length x) =
-      omega (arith, length-append noise w, length-append (hear H [] noise) (silence (length m)), hear-length H [] noise, length-replicate (length m) More) in
+      omega (arith, length-append noise w, length-append (hear H [] noise) (silence (length m)), hear-length H [] noise, length-replicate {A = Said} (length m) (yes more)) in
       rw said at (upto (noise ++ w) (noise ++ m) r x a (hear H [] r) t v n (b ∙ sym (append-assoc noise w r)) (split t p x a (hear H [] r) (not-more (pending noise ++ w)) h))
 
 module _ {H : ℕ} where
@@ -78,7 +80,7 @@ module _ {H : ℕ} where
       let after : List ℕ = wires fs ++ rest in
       let i : wires (f ∷ fs) ++ rest ≡ f .wire ++ after = append-assoc (f .wire) (wires fs) rest in
       let u = up-to-wire H [] (sent-framed f) after t (e ∙ ap (hear H []) i) (b ∙ i) p in
-      let k : Takes (f .wire) [] (Frame (f .wire)) (u .first) = rw (says-none H, fits-said H (f .fits)) at (u .takes) in
+      let k : Takes (f .wire) [] (yes (frame (f .wire))) (u .first) = rw (says-none H, fits-said H (f .fits)) at (u .takes) in
       rw (u .calls) (then k (in-turn fs rest (u .later) (u .hears) (u .rest) (u .plain)))
 
 pub recovered : {h k : List ℕ} {s : FrameSplitter} {t : List Call} (noise : List ℕ) (f : Sent (length h)) (fs : List (Sent (length h))) (rest : List ℕ)

@@ -6,7 +6,8 @@ use Prim.Native.Nat.{ℕ, suc, _<_}
 use native.Mathlib.Omega.{arith}
 use lib.ListN.{length, take, drop, length-append}
 use lib.Seq.{take-at, drop-at}
-use Rattle.stream.specs.Stream.{Said, Call, call, takenBy, answers, heard}
+use Rattle.stream.specs.Stream.{Said, Call, call, takenBy, answers}
+use Rattle.stream.specs.Heard.{heard}
 use Rattle.stream.proofs.Stream.{Plain, spoken}
 use Rattle.stream.proofs.Heard.{Split}
 use Rattle.recovery.specs.Recovery.{Takes}

@@ -9,7 +9,8 @@ use lib.Dec.{eqb}
 use Rattle.error.specs.Refusal.{yes}
 use Rattle.frame.specs.Wire.{Fields}
 use Rattle.frame.specs.Rule.{encodeRule, parseRule}
-use Rattle.stream.specs.Stream.{Said, Frame, Call, call, takenBy, answers, answerTo}
+use Rattle.splitter.specs.Feed.{frame}
+use Rattle.stream.specs.Stream.{Said, Call, call, takenBy, answers, answerTo}
 use Rattle.stream.specs.Rust.{rustFrames}
 
 -- ---- the stream
@@ -53,7 +54,7 @@ pub record Takes (w : List ℕ) (said : List Said) (a : Said) (t : List Call) : 
 -- the calls that take the rest of the stream, and answer what it calls for.
 pub data InTurn {H : ℕ} (rest : List ℕ) : List (Sent H) → List Call → Type 0 where
   end : {t : List Call} → takenBy t ≡ rest → answers t ≡ answersFor H rest → InTurn rest [] t
-  then : {f : Sent H} {fs : List (Sent H)} {t u : List Call} → Takes (f .wire) [] (Frame (f .wire)) t → InTurn rest fs u → InTurn rest (f ∷ fs) (t ++ u)
+  then : {f : Sent H} {fs : List (Sent H)} {t u : List Call} → Takes (f .wire) [] (yes (frame (f .wire))) t → InTurn rest fs u → InTurn rest (f ∷ fs) (t ++ u)
 
 -- The calls t over noise, the frames f ∷ fs, and any rest, or none.
 pub record Recovered {H : ℕ} (noise : List ℕ) (f : Sent H) (fs : List (Sent H)) (rest : List ℕ) (t : List Call) : Type 0 where
@@ -63,7 +64,7 @@ pub record Recovered {H : ℕ} (noise : List ℕ) (f : Sent H) (fs : List (Sent 
   -- up to the first frame's end: what the noise calls for, and at that end one answer, to the pending start and the frame as one
   pub meets : Takes (noise ++ f .wire) (answersFor H noise) (answerTo H (pending noise ++ f .wire)) first
   -- so with no start pending the first frame is answered whole
-  pub clear : pending noise ≡ [] → Takes (noise ++ f .wire) (answersFor H noise) (Frame (f .wire)) first
+  pub clear : pending noise ≡ [] → Takes (noise ++ f .wire) (answersFor H noise) (yes (frame (f .wire))) first
   -- every other frame is
   pub others : InTurn rest fs later
   -- and each parses to the fields that it was written from, given room for its payload

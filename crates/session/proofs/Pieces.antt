@@ -2,43 +2,19 @@
 -- Assumes nothing.
 use Prim.Native.Nat.{ℕ, zero, suc, _+_, _-_, _*_, _<_, _≤_}
 use mathlib.Core.Path.{_≡_, refl, sym, ap, _∙_}
-use mathlib.Core.Bool.{Bool, true, false, cond}
+use mathlib.Core.Bool.{false}
 use mathlib.Core.List.{List, [], _∷_, _++_, append-assoc, append-nil}
 use native.Mathlib.Nat.{not-suc-le-zero}
 use native.Mathlib.Omega.{arith}
-use lib.Dec.{ltb, eqb}
 use lib.ListN.{length, take, drop, length-append, length-drop, drop-of-length-le}
 use lib.Seq.{drop-drop, take-all, take-at, drop-at}
-use borrow.Author.Tests.{le-ltb}
 use Rattle.error.specs.Refusal.{yes}
-use Rattle.general.proofs.Cases.{by-test}
-use Rattle.splitter.specs.declared.FrameSplitter.{FrameSplitter}
-use Rattle.search.specs.First.{firstFrom}
-use Rattle.splitter.specs.Feed.{feedRule, runs, ends, goesOn, isBad, isOpen, isKept, startIn, lengthWith}
-use Rattle.splitter.proofs.Laws.{kept-is}
+use Rattle.splitter.specs.Feed.{isBad}
+use Rattle.splitter.proofs.Laws.{good-after}
 use Rattle.stream.proofs.Ends.{feed-within, feed-moves}
-use Rattle.session.specs.declared.Session.{Session}
 use Rattle.session.specs.declared.Step.{Step}
-use Rattle.session.specs.Piece.{Stage, stage, fed, stageAfter, Work, work, behind, works, Done, done, allLines, eventText}
-use Rattle.session.specs.Event.{Wrote, Stepped}
-
--- a state that is not refused gives one that is not refused
-pub good-after : (s : FrameSplitter) (h c : List ℕ) → isBad s (length h) ≡ false → isBad (feedRule s h c .state) (length h) ≡ false
-unfolding feedRule runs ends goesOn
-good-after s h c good =
-    let i = startIn s c in
-    let j = firstFrom 0xF1 i c in
-    let none : ltb (length h) 0 ≡ false = le-ltb (length h) 0 (omega arith) in
-    rw good
-    (by-test (ltb j (length c))
-    (λ l.
-    by-test (isKept s (length h) (j + 1 - i))
-    (λ k. by-test (isOpen s) (λ o. rw (l, k, o, none)) (λ o. rw (l, k, o, none)))
-    (λ k. rw (l, k, none)))
-    (λ l.
-    by-test (isKept s (length h) (length c - i))
-    (λ k. rw (l, k, le-ltb _ _ (kept-is s (length h) (length c - i) k .1)))
-    (λ k. rw (l, k, none))))
+use Rattle.session.specs.Piece.{Stage, stage, fed, stageAfter, Work, work, behind, works, done, allLines, eventText}
+use Rattle.session.specs.Event.{Stepped}
 
 works-end : (k : ℕ) (t : Stage) → works k t [] ≡ work [] t
 unfolding works

@@ -7,7 +7,7 @@ use mathlib.Core.List.{List, [], _∷_, _++_, map, append-assoc}
 use native.Mathlib.Nat.{not-suc-le-zero}
 use native.Mathlib.Omega.{arith}
 use lib.Dec.{ltb}
-use lib.ListN.{length, take, drop, length-append, length-drop}
+use lib.ListN.{length, drop, length-append, length-drop}
 use lib.Seq.{take-append-seam}
 use borrow.Author.Tests.{ltb-false, le-leb}
 use Rattle.error.specs.Refusal.{Told, yes, no, onYes, filled, andThen}
@@ -15,9 +15,8 @@ use Rattle.error.specs.Result.{toldUsize}
 use Rattle.general.proofs.Cases.{by-test}
 use Rattle.frame.specs.Wire.{Fields}
 use Rattle.frame.specs.Rule.{checkRule, roomRule, parseRule}
-use Rattle.splitter.specs.declared.FrameSplitter.{FrameSplitter}
-use Rattle.splitter.specs.Feed.{Given, new, toldEvent, isBad}
-use Rattle.stream.specs.Stream.{Said, More, Overlong, Frame, Refused, saidOf, Call, Calls, Feeds, joined, unlessMore, answers, answerTo}
+use Rattle.splitter.specs.Feed.{Given, new, toldEvent, isBad, more, overlong, frame}
+use Rattle.stream.specs.Stream.{Said, saidOf, Call, Calls, Feeds, joined, unlessMore, answers, answerTo}
 use Rattle.stream.specs.Stream as stream
 use Rattle.stream.specs.Rust.{rustFrames}
 use Rattle.stream.proofs.Calls.{Stands, stands-fresh, Agrees, one-call}
@@ -28,7 +27,7 @@ use Rattle.stream.proofs.Rust.{as-the-rust}
 use Rattle.report.specs.Line.{endText, fitted, Lined}
 use Rattle.session.specs.declared.Ran.{Ran}
 use Rattle.session.specs.Lines.{lineTo, numberTo, linesOf}
-use Rattle.session.specs.Piece.{Stage, stage, fed, said, payloadTo, stageAfter, Work, work, behind, works, roomFor, pieceRule, frontOf, doneBy, eventText}
+use Rattle.session.specs.Piece.{Stage, stage, fed, said, payloadTo, stageAfter, Work, behind, works, roomFor, pieceRule, frontOf, doneBy, eventText}
 use Rattle.session.specs.Program.{first, printed, allPieces}
 use Rattle.session.proofs.Rules.{piece-fits}
 
@@ -42,17 +41,17 @@ sized p (yes f) =
 
 payload-size : (p : List ℕ) (a : Said) → length (payloadTo p a) ≡ length p
 unfolding parseRule
-payload-size p More = refl
-payload-size p Overlong = refl
-payload-size p (Frame w) = sized p (checkRule w)
-payload-size p (Refused k vs) = refl
+payload-size p (yes more) = refl
+payload-size p (yes overlong) = refl
+payload-size p (yes (frame w)) = sized p (checkRule w)
+payload-size p (no k vs) = refl
 
 -- an answer's line, in front of those of the answers after it
 said-first : (m n : ℕ) (a : Said) (l : List Said) → lineTo m n a ++ linesOf m (numberTo n a) l ≡ linesOf m n (unlessMore a ++ l)
-said-first m n More l = refl
-said-first m n Overlong l = refl
-said-first m n (Frame w) l = refl
-said-first m n (Refused k vs) l = refl
+said-first m n (yes more) l = refl
+said-first m n (yes overlong) l = refl
+said-first m n (yes (frame w)) l = refl
+said-first m n (no k vs) l = refl
 
 -- ---- what is read back from a buffer of lines
 

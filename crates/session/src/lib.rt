@@ -6,7 +6,8 @@ ghost use Prim.Native.Nat.{_*_, _≤_};
 ghost use lib.ListN.{length};
 ghost use Rattle.error.specs.Result.{toldUsize};
 ghost use Rattle.splitter.specs.Feed.{new, isBad};
-ghost use Rattle.stream.specs.Stream.{Frame};
+ghost use Rattle.error.specs.Refusal.{yes};
+ghost use Rattle.splitter.specs.Feed.{frame};
 ghost use Rattle.report.specs.Line.{longText};
 ghost use Rattle.session.specs.Lines.{lineTo};
 ghost use Rattle.session.specs.Piece.{stage, payloadTo, roomFor, allLines, pieceRule, frontOf, doneBy};
@@ -166,8 +167,8 @@ fn stepped_to(splitter: FrameSplitter, number: u64, taken: usize, written: usize
 // The line of a frame, whose payload goes to the payload buffer.
 fn put_frame(number: u64, wire: &[u8], payload: &mut [u8], out: &mut [u8]) -> usize
     requires { ⌜ 128 ≤ length (now out) ⌝ }
-    ensures line { λ r. ⌜ Wrote (lineTo (length (now (payload .entry))) number (Frame (now (wire .entry)))) (now (out .entry)) r (now (out .exit)) ⌝ }
-    ensures kept { λ r. ⌜ now (payload .exit) ≡ payloadTo (now (payload .entry)) (Frame (now (wire .entry))) ⌝ }
+    ensures line { λ r. ⌜ Wrote (lineTo (length (now (payload .entry))) number (yes (frame (now (wire .entry))))) (now (out .entry)) r (now (out .exit)) ⌝ }
+    ensures kept { λ r. ⌜ now (payload .exit) ≡ payloadTo (now (payload .entry)) (yes (frame (now (wire .entry)))) ⌝ }
 {
     let len = wire.len();
     let parsed = RawFrame::parse(wire, payload);

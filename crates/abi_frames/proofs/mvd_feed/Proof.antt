@@ -6,6 +6,7 @@ use mathlib.Core.List.{List}
 use mathlib.Core.Logic.{⊎-elim}
 use Rattle.error.specs.Refusal.{yes, onYes}
 use Rattle.splitter.specs.declared.Event.{Event}
+use Rattle.splitter.specs.declared.Place.{Place}
 use Rattle.splitter.specs.Feed.{Answer, Given, toldEvent, feedRule}
 use Rattle.abi.specs.Answer.{flagOf}
 use Rattle.abi.proofs.Passing.{passed, refuses}
@@ -21,7 +22,7 @@ module _ (c : tie.After-feed) where
   abbrev gives : Given
   gives = feedRule (stateOf (start .args .count .now) (start .args .skipping .now)) (start .args .hold .now) (start .args .chunk .now)
 
-  abbrev places : Answer → ℕ × ℕ × List ℕ
+  abbrev places : Answer Place → ℕ × ℕ × List ℕ
   places a = (c .feed .result .splitter .count, flagOf (c .feed .result .splitter .skipping), fedOf (c .feed .result .taken) a)
 
   left : {e : Event} → c .feed .result .event ≡ e → onYes places (toldEvent e) ≡ leftBy gives

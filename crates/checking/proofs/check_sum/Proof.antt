@@ -1,4 +1,4 @@
--- `check_sum` meets its contract: the checksum is tested against the stuffed bytes before it, and andThen the head is read.
+-- `check_sum` meets its contract: the checksum is tested against the stuffed bytes before it, and then the head is read.
 use borrow.Author.Needs.{needs}
 use mathlib.Core.Path.{_≡_, sym, ap, _∙_}
 use mathlib.Core.List.{List, [], _∷_, _++_}

@@ -1,8 +1,7 @@
 -- `all_lines` meets its contract. The invariant: the lines of what is taken are put (`Going`).
 -- The measure is what is left of the piece.
-use Prim.Native.Nat.{ℕ, _+_, _-_, _*_, _<_, _≤_}
-use mathlib.Core.Path.{_≡_, refl, sym, ap, _∙_}
-use mathlib.Core.List.{List, _++_}
+use Prim.Native.Nat.{_+_, _-_, _<_, _≤_}
+use mathlib.Core.List.{_++_}
 use native.Mathlib.Omega.{arith}
 use lib.ListN.{length, take, drop, length-drop}
 use Rattle.session.specs.Piece.{Stage, stage}

@@ -4,8 +4,9 @@ use mathlib.Core.Path.{_≡_, refl, sym, ap, _∙_}
 use mathlib.Core.List.{List}
 use lib.ListN.{length}
 use Rattle.splitter.specs.declared.Event.{Event}
-use Rattle.splitter.specs.Feed.{toldEvent}
-use Rattle.stream.specs.Stream.{Said, Frame, saidOf}
+use Rattle.splitter.specs.Feed.{toldEvent, frame}
+use Rattle.error.specs.Refusal.{yes}
+use Rattle.stream.specs.Stream.{Said, saidOf}
 use Rattle.session.specs.Lines.{lineTo, numberTo}
 use Rattle.session.specs.Piece.{Stage, stage, payloadTo}
 use Rattle.session.specs.Event.{Wrote, Stepped}
@@ -92,7 +93,7 @@ returns c =
     let w = e .before .before in
     let p = f .put-frame in
     rw (c .stepped-to .ensures, w .wrapping-add-u64 .ensures)
-    (arm w _ (ap (said w) (e .event .given .1) ∙ ap Frame (sym (v .view .ensures .0))) (p .result) (p .last .1 .1 .0) (p .last .1 .1 .1 .0) (p .ensures .1) (p .ensures .0))
+    (arm w _ (ap (said w) (e .event .given .1) ∙ ap (λ (w : List ℕ). yes (frame w)) (sym (v .view .ensures .0))) (p .result) (p .last .1 .1 .0) (p .last .1 .1 .1 .0) (p .ensures .1) (p .ensures .0))
 
 same-length-4 : tie.Need-same-length-4
 same-length-4 c = search needs

@@ -1,7 +1,4 @@
 -- `Session::new` meets its contract.
-use mathlib.Core.Path.{ap}
-use Rattle.splitter.specs.declared.FrameSplitter.{FrameSplitter}
-use Rattle.session.specs.declared.Session.{Session}
 use borrow.Author.Needs.{needs}
 use Rattle.session.proofs.Session.new.Statement.{statement}
 use Rattle.session.proofs.Session.new.Tie as tie
