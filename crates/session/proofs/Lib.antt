@@ -3,4 +3,5 @@ pub mod Events
 pub mod Pieces
 pub mod Rules
 pub mod Printed
+pub mod Contract
 pub mod One
