@@ -4,4 +4,5 @@ pub mod Pieces
 pub mod Rules
 pub mod Printed
 pub mod Contract
+pub mod Goes
 pub mod One

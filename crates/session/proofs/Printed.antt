@@ -9,24 +9,26 @@ use native.Mathlib.Omega.{arith}
 use lib.Dec.{ltb}
 use lib.ListN.{length, drop, length-append, length-drop}
 use lib.Seq.{take-append-seam}
-use borrow.Author.Tests.{ltb-false, le-leb}
+use borrow.Author.Tests.{ltb-false, le-leb, lt-leb}
 use Rattle.error.specs.Refusal.{Told, yes, no, onYes, filled, andThen}
 use Rattle.error.specs.Result.{toldUsize}
 use Rattle.general.proofs.Cases.{by-test}
 use Rattle.frame.specs.Wire.{Fields}
 use Rattle.frame.specs.Rule.{checkRule, roomRule, parseRule}
+use Rattle.splitter.specs.declared.FrameSplitter.{FrameSplitter}
 use Rattle.splitter.specs.Feed.{Given, new, toldEvent, isBad, more, overlong, frame}
 use Rattle.stream.specs.Stream.{Said, saidOf, Call, Calls, Feeds, joined, unlessMore, answers, answerTo}
 use Rattle.stream.specs.Stream as stream
 use Rattle.stream.specs.Rust.{rustFrames}
-use Rattle.stream.proofs.Calls.{Stands, stands-fresh, stands-good, Agrees, one-call}
+use Rattle.stream.proofs.Calls.{Stands, fits, long, stands-fresh, stands-good, Agrees, one-call}
 use Rattle.splitter.proofs.One.{fedOf}
 use Rattle.stream.proofs.Ends.{allowed, feeds-calls}
-use Rattle.stream.proofs.Stream.{any-cutting}
+use Rattle.stream.proofs.Line.{opened}
+use Rattle.stream.proofs.Stream.{follows}
 use Rattle.stream.proofs.Rust.{as-the-rust}
 use Rattle.report.specs.Line.{endText, fitted, Lined}
 use Rattle.session.specs.declared.Ran.{Ran}
-use Rattle.session.specs.Lines.{lineTo, numberTo, linesOf}
+use Rattle.session.specs.Lines.{lineTo, numberTo, linesOf, endTo}
 use Rattle.session.specs.Piece.{Stage, stage, fed, said, payloadTo, stageAfter, Work, work, behind, works, roomFor, Done, pieceRule, frontOf, doneBy, eventText}
 use Rattle.session.specs.Program.{first, Pieces, Run}
 use Rattle.session.specs.Program as program
@@ -140,22 +142,25 @@ module _ {h p : List ℕ} {cs : List (List ℕ)} {text : List ℕ} {t : Stage} (
   calls : Calls new h (joined cs) (traces .trace) (t .session .splitter) (t .hold)
   calls = feeds-calls (traces .feeds)
 
--- the line at the end is what is read back
-whole : {h p : List ℕ} {cs : List (List ℕ)} {printed : List ℕ} (r : Run h p cs printed)
-    → printed ≡ r .text ++ endText (r .stage .session .splitter .count) (r .stage .session .splitter .skipping)
-whole r = r .whole ∙ ap (λ (l : List ℕ). r .text ++ l) (line-shown (r .last) (omega (arith, r .last .short, r .room)))
+-- the line at the end is that of the bytes that are left open
+stands-end : {s : FrameSplitter} {h w : List ℕ} → Stands s h w → endText (s .count) (s .skipping) ≡ endTo (length h) w
+stands-end (fits l n m k) = rw (le-leb _ _ l, n, m)
+stands-end (long l n m) = rw (lt-leb _ _ l, n, m)
 
 -- H is the hold buffer's length; the Rust is fed the same bytes, cut in any other way
-pub prints : {h p : List ℕ} {cs : List (List ℕ)} {printed : List ℕ} (ds : List (List ℕ)) → joined cs ≡ joined ds → (r : Run h p cs printed)
-    → printed ≡ linesOf (length p) 0 (map (answerTo (length h)) (rustFrames [] ds)) ++ endText (r .stage .session .splitter .count) (r .stage .session .splitter .skipping)
+pub prints : {h p : List ℕ} {cs : List (List ℕ)} {printed : List ℕ} (ds : List (List ℕ)) → joined cs ≡ joined ds → Run h p cs printed
+    → printed ≡ linesOf (length p) 0 (map (answerTo (length h)) (rustFrames [] ds)) ++ endTo (length h) (opened [] (joined ds))
 prints {h} {p} ds e r =
-    let lines = traces (r .pieces) .text ∙ ap (linesOf (length p) 0) (as-the-rust ds (rw e at (calls (r .pieces)))) in
-    whole r ∙ ap (λ (l : List ℕ). l ++ endText (r .stage .session .splitter .count) (r .stage .session .splitter .skipping)) lines
+    let c : Calls new h (joined ds) _ (r .stage .session .splitter) (r .stage .hold) = rw e at (calls (r .pieces)) in
+    let f = follows [] (stands-fresh new h) c in
+    let lines = traces (r .pieces) .text ∙ ap (linesOf (length p) 0) (as-the-rust ds c) in
+    let last = line-shown (r .last) (omega (arith, r .last .short, r .room)) ∙ stands-end (f .stands) ∙ ap (λ (n : ℕ). endTo n (opened [] (joined ds))) (f .size) in
+    r .whole ∙ (λ i. lines i ++ last i)
 
 -- pieces of one stream, cut in two ways, with buffers of equal lengths, whatever they hold
 pub any-cut : {h p h′ p′ : List ℕ} {cs cs′ : List (List ℕ)} {printed printed′ : List ℕ} → length h ≡ length h′ → length p ≡ length p′ → joined cs ≡ joined cs′
     → Run h p cs printed → Run h′ p′ cs′ printed′ → printed ≡ printed′
-any-cut eh ep e r r′ =
-    let a = any-cutting eh (rw e at (calls (r .pieces))) (calls (r′ .pieces)) in
-    let texts : r .text ≡ r′ .text = traces (r .pieces) .text ∙ (λ i. linesOf (ep i) 0 (a .says i)) ∙ sym (traces (r′ .pieces) .text) in
-    whole r ∙ (λ i. texts i ++ endText (a .state i .count) (a .state i .skipping)) ∙ sym (whole r′)
+any-cut {cs′ = ds} eh ep e r r′ =
+    prints ds e r
+    ∙ (λ i. linesOf (ep i) 0 (map (answerTo (eh i)) (rustFrames [] ds)) ++ endTo (eh i) (opened [] (joined ds)))
+    ∙ sym (prints ds refl r′)
