@@ -29,7 +29,8 @@ use Rattle.stream.proofs.Rust.{as-the-rust}
 use Rattle.report.specs.Line.{endText, fitted, Lined}
 use Rattle.session.specs.declared.Ran.{Ran}
 use Rattle.session.specs.Lines.{lineTo, numberTo, linesOf, endTo}
-use Rattle.session.specs.Piece.{Stage, stage, fed, said, payloadTo, stageAfter, Work, work, behind, works, roomFor, Done, pieceRule, frontOf, doneBy, eventText}
+use Rattle.session.specs.Piece.{Stage, stage, fed, said, payloadTo, stageAfter, eventText}
+use Rattle.session.specs.Piece.{Work, work, behind, works, roomFor, Done, pieceRule, frontOf, doneBy}
 use Rattle.session.specs.Program.{first, Pieces, Run}
 use Rattle.session.specs.Program as program
 use Rattle.session.proofs.Rules.{piece-fits}
@@ -131,7 +132,8 @@ traced : {t t′ : Stage} {cs : List (List ℕ)} {text : List ℕ} → Pieces t 
 traced program.Pieces.done v s = record { trace = []; feeds = stream.Feeds.done; text = refl }
 traced {t} {t′} (program.Pieces.piece {c = c} {cs = cs} {text = text} out r h p out′ room e rest) v s =
     let d = piece-does t c out r h p out′ e (stands-good s) room in
-    rw (d .0) (one-piece (length c) t c cs (work text t′) v s (omega arith) (subst (λ (y : Stage). After y cs (work text t′)) (d .1) (λ v′ s′. traced rest v′ s′)))
+    let after : After (works (length c) t c .stage) cs (work text t′) = subst (λ (y : Stage). After y cs (work text t′)) (d .1) (λ v′ s′. traced rest v′ s′) in
+    rw (d .0) (one-piece (length c) t c cs (work text t′) v s (omega arith) after)
 
 -- ---- the theorems
 
@@ -154,7 +156,8 @@ prints {h} {p} ds e r =
     let c : Calls new h (joined ds) _ (r .stage .session .splitter) (r .stage .hold) = rw e at (calls (r .pieces)) in
     let f = follows [] (stands-fresh new h) c in
     let lines = traces (r .pieces) .text ∙ ap (linesOf (length p) 0) (as-the-rust ds c) in
-    let last = line-shown (r .last) (omega (arith, r .last .short, r .room)) ∙ stands-end (f .stands) ∙ ap (λ (n : ℕ). endTo n (opened [] (joined ds))) (f .size) in
+    let shown = line-shown (r .last) (omega (arith, r .last .short, r .room)) in
+    let last = shown ∙ stands-end (f .stands) ∙ ap (λ (n : ℕ). endTo n (opened [] (joined ds))) (f .size) in
     r .whole ∙ (λ i. lines i ++ last i)
 
 -- pieces of one stream, cut in two ways, with buffers of equal lengths, whatever they hold

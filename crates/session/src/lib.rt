@@ -5,13 +5,12 @@ ghost use mathlib.Core.Bool.{false};
 ghost use Prim.Native.Nat.{_*_, _≤_};
 ghost use lib.ListN.{length};
 ghost use Rattle.error.specs.Result.{toldUsize};
-ghost use Rattle.splitter.specs.Feed.{new, isBad};
 ghost use Rattle.error.specs.Refusal.{yes};
-ghost use Rattle.splitter.specs.Feed.{frame};
+ghost use Rattle.splitter.specs.Feed.{new, isBad, frame};
 ghost use Rattle.report.specs.Line.{longText};
 ghost use Rattle.session.specs.Lines.{lineTo};
 ghost use Rattle.session.specs.Piece.{stage, payloadTo, roomFor, allLines, pieceRule, frontOf, doneBy};
-ghost use Rattle.session.specs.Event.{countOf, Wrote, Stepped};
+ghost use Rattle.session.specs.Event.{countOf, Wrote, stepOf, Stepped};
 use error::ResultUsize;
 use error::WireError;
 use frame::RawFrame;
@@ -155,7 +154,7 @@ fn next_event(
 }
 
 fn stepped_to(splitter: FrameSplitter, number: u64, taken: usize, written: usize) -> Step
-    ensures { λ r. ⌜ r ≡ record { session = record { splitter = splitter; number = number }; taken = taken; written = written } ⌝ }
+    ensures { λ r. ⌜ r ≡ stepOf splitter number taken written ⌝ }
 {
     Step {
         session: Session { splitter, number },
