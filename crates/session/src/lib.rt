@@ -41,7 +41,8 @@ impl Session {
 
     // All of a piece: the lines of its events at the front of out.
     pub fn piece(self, hold: &mut [u8], payload: &mut [u8], chunk: &[u8], out: &mut [u8]) -> Ran
-        ensures { λ r. ⌜ doneBy r (now (hold .exit)) (now (payload .exit)) (now (out .exit)) ≡ pieceRule (stage self (now (hold .entry)) (now (payload .entry))) (now (chunk .entry)) (now (out .entry)) ⌝ }
+        ensures { λ r. ⌜ doneBy r (now (hold .exit)) (now (payload .exit)) (now (out .exit)) ≡
+            pieceRule (stage self (now (hold .entry)) (now (payload .entry))) (now (chunk .entry)) (now (out .entry)) ⌝ }
     {
         if self.splitter.is_bad(hold.len()) {
             return Ran {
@@ -97,7 +98,8 @@ fn all_lines(
     out: &mut [u8],
 ) -> Ran
     requires { ⌜ (isBad (start .splitter) (length (now hold)) ≡ false) × (128 * length (now chunk) ≤ length (now out)) ⌝ }
-    ensures { λ r. ⌜ doneBy r (now (hold .exit)) (now (payload .exit)) (now (out .exit)) ≡ allLines (stage start (now (hold .entry)) (now (payload .entry))) (now (chunk .entry)) (now (out .entry)) ⌝ }
+    ensures { λ r. ⌜ doneBy r (now (hold .exit)) (now (payload .exit)) (now (out .exit)) ≡
+        allLines (stage start (now (hold .entry)) (now (payload .entry))) (now (chunk .entry)) (now (out .entry)) ⌝ }
 {
     let mut session = start;
     let mut at = 0;
@@ -129,7 +131,8 @@ fn next_event(
     out: &mut [u8],
 ) -> Step
     requires { ⌜ 128 ≤ length (now out) ⌝ }
-    ensures { λ r. ⌜ Stepped (stage session (now (hold .entry)) (now (payload .entry))) (now (chunk .entry)) (now (out .entry)) r (now (hold .exit)) (now (payload .exit)) (now (out .exit)) ⌝ }
+    ensures { λ r. ⌜ Stepped (stage session (now (hold .entry)) (now (payload .entry))) (now (chunk .entry)) (now (out .entry))
+        r (now (hold .exit)) (now (payload .exit)) (now (out .exit)) ⌝ }
 {
     let number = session.number;
     let before = session.splitter;

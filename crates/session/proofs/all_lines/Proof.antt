@@ -46,7 +46,8 @@ module _ (c : tie.After-next-event Inv-loop μ-loop) where
   filled = c .next-event .last .1 .1 .1 .1 .0
 
   step :
-      Stepped now (drop (turn .before .loop .at) (args .args .chunk .now)) lent (c .next-event .result) (c .next-event .last .1 .0) (c .next-event .last .1 .1 .0) filled
+      let e = c .next-event in
+      Stepped now (drop (turn .before .loop .at) (args .args .chunk .now)) lent (e .result) (e .last .1 .0) (e .last .1 .1 .0) filled
   step =
       let l = turn .before .loop in
       rw (part-from (args .args .chunk .now) (l .at), part-from (l .out) (l .written)) at (c .next-event .ensures)
