@@ -1,5 +1,5 @@
 -- Runs of stores: one at the front of a buffer, and what the writers promise.
--- Assumes nothing.
+-- Two texts put one behind the other are the joined text put (`put-then`), and no length changes.
 use Prim.Native.Nat.{ℕ, _+_, _<_, _≤_}
 use mathlib.Core.Path.{_≡_, refl, sym, ap, _∙_}
 use mathlib.Core.List.{List, [], _∷_, _++_}

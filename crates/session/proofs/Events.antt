@@ -1,5 +1,5 @@
 -- One event: a line that fits is put, and what one call of the splitter comes to.
--- Assumes nothing.
+-- A line is at most 128 bytes, so one that is put where 128 fit is not refused (`wrote`).
 use Prim.Native.Nat.{ℕ, _≤_}
 use mathlib.Core.Path.{_≡_, refl, sym, ap, _∙_}
 use mathlib.Core.List.{List, []}
@@ -15,7 +15,7 @@ use Rattle.splitter.specs.Feed.{givenBy}
 use Rattle.stream.specs.Stream.{Said, saidOf}
 use Rattle.session.specs.Lines.{lineTo, numberTo}
 use Rattle.session.specs.Piece.{Stage, stage, fed, said, payloadTo}
-use Rattle.session.specs.Event.{countOf, Wrote, Stepped}
+use Rattle.session.specs.Event.{countOf, Wrote, Stepped, stepOf}
 
 pub wrote : (text old : List ℕ) (told : Told ℕ) (new : List ℕ) → Lined text old told new → 128 ≤ length old → Wrote text old (countOf told) new
 unfolding fitted
@@ -33,7 +33,7 @@ pub stepped :
     (t : Stage) (c out : List ℕ) (f : Fed) (h′ : List ℕ) → givenBy f h′ ≡ fed t c
     → (a : Said) → saidOf c h′ (toldEvent (f .event)) ≡ a
     → (w : ℕ) (p′ new : List ℕ) → p′ ≡ payloadTo (t .payload) a → Wrote (lineTo (length (t .payload)) (t .session .number) a) out w new
-    → Stepped t c out (record { session = record { splitter = f .splitter; number = numberTo (t .session .number) a }; taken = f .taken; written = w }) h′ p′ new
+    → Stepped t c out (stepOf (f .splitter) (numberTo (t .session .number) a) (f .taken) w) h′ p′ new
 stepped t c out f h′ e a s w p′ new k l =
     let q : a ≡ said t c = sym s ∙ ap (λ (g : Given). saidOf c (g .hold) (g .answer)) e in
     record {

@@ -1,4 +1,5 @@
 -- `text_of` meets its contract: a part of the buffer's front.
+-- It is empty where the reply is refused, or says more bytes than there are.
 use mathlib.Core.Path.{refl, sym, ap, _∙_}
 use lib.Seq.{length-take-le}
 use borrow.Author.Tests.{le-leb, lt-leb}
