@@ -1,2 +1,3 @@
 -- The laws of a field asked for by C.
 pub mod Message
+pub mod One

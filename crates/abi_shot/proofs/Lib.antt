@@ -1,2 +1,3 @@
 -- The laws of a text that is laid.
 pub mod Laid
+pub mod One

@@ -1,0 +1,2 @@
+-- No two replies are allowed.
+pub mod One

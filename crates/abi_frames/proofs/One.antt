@@ -1,0 +1,26 @@
+-- Two replies that a call of `abi_frames` may give for one input are equal, and so is every lent place at exit, by the contract as the
+-- check reads it off src/ (`Post`).
+use mathlib.Core.Path.{_≡_}
+use Rattle.general.proofs.One.{plain}
+use Rattle.abi.proofs.OnePassing.{one-passing, one-passing-three}
+use Rattle.abi_frames.proofs.mvd_parse.Reads as parse
+use Rattle.abi_frames.proofs.mvd_encode.Reads as encode
+use Rattle.abi_frames.proofs.mvd_feed.Reads as feed
+
+pub one-parse : (κs a r s x y : _) → parse.Post κs a r x → parse.Post κs a s y
+    → (r ≡ s) × (x .1 .0 .now ≡ y .1 .0 .now) × (x .1 .1 .0 .now ≡ y .1 .1 .0 .now) × (x .1 .1 .1 .0 .now ≡ y .1 .1 .1 .0 .now)
+one-parse κs a r s x y p q =
+    let e = one-passing (p .0) (q .0) in
+    (e .0, plain (p .1) (q .1), e .1, e .2)
+
+pub one-encode : (κs a r s x y : _) → encode.Post κs a r x → encode.Post κs a s y
+    → (r ≡ s) × (x .1 .1 .1 .1 .0 .now ≡ y .1 .1 .1 .1 .0 .now) × (x .1 .1 .1 .1 .1 .0 .now ≡ y .1 .1 .1 .1 .1 .0 .now) × (x .1 .1 .1 .1 .1 .1 .0 .now ≡ y .1 .1 .1 .1 .1 .1 .0 .now)
+one-encode κs a r s x y p q =
+    let e = one-passing (p .0) (q .0) in
+    (e .0, plain (p .1) (q .1), e .1, e .2)
+
+pub one-feed : (κs a r s x y : _) → feed.Post κs a r x → feed.Post κs a s y
+    → (r ≡ s) × (x .0 .now ≡ y .0 .now) × (x .1 .0 .now ≡ y .1 .0 .now) × (x .1 .1 .0 .now ≡ y .1 .1 .0 .now) × (x .1 .1 .1 .1 .0 .now ≡ y .1 .1 .1 .1 .0 .now) × (x .1 .1 .1 .1 .1 .0 .now ≡ y .1 .1 .1 .1 .1 .0 .now)
+one-feed κs a r s x y p q =
+    let e = one-passing-three (p .0) (q .0) in
+    (e .0, e .1, e .2, plain (p .1) (q .1), e .3, e .4)
