@@ -1,2 +1,0 @@
--- No two replies are allowed.
-pub mod One
