@@ -8,8 +8,8 @@ use ironsight::protocol::shot::*;
 use std::hint::black_box;
 use std::time::Instant;
 
-const BYTES: usize = 1 << 19;
-const PAIRS: usize = 501;
+const BYTES: usize = 1 << 18;
+const PAIRS: usize = 1001;
 
 /// Keeps a value from being optimised away.
 fn sink<T>(x: T) {
