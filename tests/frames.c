@@ -1,6 +1,5 @@
 /* The program `frames` again, in C over the exported library: what it prints is held to the program's own output. */
 #include <stdio.h>
-#include <string.h>
 #include "movaleduft.h"
 
 static const int VALUES[12] = {0, 1, 1, 0, 2, 2, 1, 3, 2, 0, 1, 1};
