@@ -1,16 +1,10 @@
-//! Finds the five source files, unchanged: the folder that IRONSIGHT_SRC names, or the documents' own.
+//! Finds the five source files, unchanged, in the folder that IRONSIGHT_SRC names (beside/run asks for it).
 use std::path::PathBuf;
 
 fn main() {
     println!("cargo:rerun-if-env-changed=IRONSIGHT_SRC");
-    let manifest = PathBuf::from(std::env::var("CARGO_MANIFEST_DIR").unwrap());
-    let src = match std::env::var("IRONSIGHT_SRC") {
-        Ok(path) => PathBuf::from(path),
-        Err(_) => manifest.join("../../../shared/docs/src/src"),
-    };
-    let src = src.canonicalize().unwrap_or_else(|_| {
-        panic!("the Rust source is not at {}: set IRONSIGHT_SRC to the folder that has addr.rs", src.display())
-    });
+    let src = PathBuf::from(std::env::var("IRONSIGHT_SRC").expect("IRONSIGHT_SRC names the folder that has addr.rs"));
+    assert!(src.is_absolute(), "IRONSIGHT_SRC is made absolute by beside/run");
     let module = |name: &str, file: &str| {
         let path = src.join(file);
         println!("cargo:rerun-if-changed={}", path.display());

@@ -1,4 +1,4 @@
-//! The speed of the port beside the Rust: the same inputs, the same process, the best of nine; buffers are not cleared first.
+//! The speed of the port beside the Rust: the same inputs, the same process, in pairs; buffers are not cleared first.
 use crate::cases::Random;
 use crate::port::{c, Splitter};
 use ironsight::addr::BusAddr;
@@ -8,29 +8,32 @@ use ironsight::protocol::shot::*;
 use std::hint::black_box;
 use std::time::Instant;
 
-const BYTES: usize = 8 << 20;
-const TIMES: u32 = 9;
+const BYTES: usize = 1 << 18;
+const PAIRS: usize = 1001;
 
 /// Keeps a value from being optimised away.
 fn sink<T>(x: T) {
     black_box(x);
 }
 
-/// The least seconds of nine runs.
-fn best(mut f: impl FnMut()) -> f64 {
-    (0..TIMES)
-        .map(|_| {
-            let start = Instant::now();
-            f();
-            start.elapsed().as_secs_f64()
-        })
-        .fold(f64::MAX, f64::min)
+fn seconds(f: &mut impl FnMut()) -> f64 {
+    let start = Instant::now();
+    f();
+    start.elapsed().as_secs_f64()
 }
 
-fn row(name: &str, bytes: usize, rust: impl FnMut(), port: impl FnMut(), copy: f64) {
-    let (rust, port) = (best(rust), best(port));
-    let mib = |s: f64| bytes as f64 / s / (1 << 20) as f64;
-    println!("| {name} | {:.0} | {:.0} | {:.2} | {:.3} |", mib(rust), mib(port), rust / port, mib(port) / copy);
+fn median(mut xs: Vec<f64>) -> f64 {
+    xs.sort_by(f64::total_cmp);
+    xs[xs.len() / 2]
+}
+
+/// Prints the nanoseconds of a call on both sides, and the ratio: each is the median over the pairs.
+/// A pair is both sides, one right after the other: where the machine's speed swings, it swings for both.
+fn row(name: &str, calls: usize, mut rust: impl FnMut(), mut port: impl FnMut()) {
+    let pairs: Vec<(f64, f64)> = (0..PAIRS).map(|_| (seconds(&mut port), seconds(&mut rust))).collect();
+    let of = |f: fn(&(f64, f64)) -> f64| median(pairs.iter().map(f).collect());
+    let ns = 1e9 / calls as f64;
+    println!("| {name} | {:.1} | {:.1} | {:.2} |", of(|p| p.0) * ns, of(|p| p.1) * ns, of(|p| p.0 / p.1));
 }
 
 fn frames(r: &mut Random) -> Vec<Vec<u8>> {
@@ -64,21 +67,20 @@ fn port_split(stream: &[u8], chunk: usize) -> usize {
     sum
 }
 
-fn splitting(stream: &[u8], copy: f64) {
+fn splitting(stream: &[u8], frames: usize) {
     for chunk in [16, 64, 512, 4_096, 65_536] {
         assert_eq!(rust_split(stream, chunk), port_split(stream, chunk));
         let rust = || sink(rust_split(black_box(stream), chunk));
         let port = || sink(port_split(black_box(stream), chunk));
-        row(&format!("split, chunks of {chunk}"), stream.len(), rust, port, copy);
+        row(&format!("split, chunks of {chunk}"), frames, rust, port);
     }
 }
 
-fn framing(wires: &[Vec<u8>], copy: f64) {
-    let total = wires.iter().map(Vec::len).sum();
+fn framing(wires: &[Vec<u8>]) {
     let (mut payload, mut header, mut values) = (vec![0u8; 2048], [0u64; 4], [0u64; 3]);
     row(
         "parse",
-        total,
+        wires.len(),
         || wires.iter().for_each(|w| sink(RawFrame::parse(black_box(w)))),
         || {
             wires.iter().for_each(|w| unsafe {
@@ -86,13 +88,12 @@ fn framing(wires: &[Vec<u8>], copy: f64) {
                 black_box(c::mvd_parse(w.as_ptr(), w.len(), p, 2048, h, v));
             })
         },
-        copy,
     );
     let parsed: Vec<RawFrame> = wires.iter().map(|w| RawFrame::parse(w).unwrap()).collect();
     let (mut wire, mut length) = (vec![0u8; 2048], 0usize);
     row(
         "encode",
-        total,
+        parsed.len(),
         || parsed.iter().for_each(|f| sink(black_box(f).encode())),
         || {
             parsed.iter().for_each(|f| unsafe {
@@ -100,24 +101,21 @@ fn framing(wires: &[Vec<u8>], copy: f64) {
                 black_box(c::mvd_encode(0x10, 0x40, 0xD4, p, f.payload.len(), w, 2048, &mut length, v));
             })
         },
-        copy,
     );
 }
 
 /// Decodes over 64 payloads in turn.
-fn decode(name: &str, payloads: &[Vec<u8>], rust: impl Fn(&[u8]), mut port: impl FnMut(&[u8]), copy: f64) {
+fn decode(name: &str, payloads: &[Vec<u8>], rust: impl Fn(&[u8]), mut port: impl FnMut(&[u8])) {
     let turns = BYTES / payloads.iter().map(Vec::len).sum::<usize>();
-    let total = turns * payloads.iter().map(Vec::len).sum::<usize>();
     row(
         name,
-        total,
+        turns * payloads.len(),
         || (0..turns).for_each(|_| payloads.iter().for_each(|p| rust(black_box(p)))),
         || (0..turns).for_each(|_| payloads.iter().for_each(|p| port(black_box(p)))),
-        copy,
     );
 }
 
-fn decoding(r: &mut Random, copy: f64) {
+fn decoding(r: &mut Random) {
     let mut made = |len: usize, first: &[u8]| -> Vec<Vec<u8>> {
         (0..64)
             .map(|_| {
@@ -136,7 +134,6 @@ fn decoding(r: &mut Random, copy: f64) {
                 &made($len, &[]),
                 |p| sink($rust::decode(p)),
                 |p| sink(unsafe { c::$port(p.as_ptr(), p.len(), wp, xp, vp) }),
-                copy,
             );
         };
     }
@@ -147,24 +144,24 @@ fn decoding(r: &mut Random, copy: f64) {
     let (mut counts, mut sequence, mut points) = ([0u64; 16], 0i16, 0usize);
     let cp = counts.as_mut_ptr();
     let track = |p: &[u8]| sink(unsafe { c::mvd_tracking_status(p.as_ptr(), p.len(), cp, wp, vp) });
-    decode("decode E9", &made(82, &[]), |p| sink(TrackingStatus::decode(p)), track, copy);
+    decode("decode E9", &made(82, &[]), |p| sink(TrackingStatus::decode(p)), track);
     let speed = |p: &[u8]| {
         sink(unsafe { c::mvd_speed_profile(p.as_ptr(), p.len(), xp, 256, wp, &mut points, &mut t, vp) })
     };
-    decode("decode D9", &made(172, &[]), |p| sink(SpeedProfile::decode(p)), speed, copy);
+    decode("decode D9", &made(172, &[]), |p| sink(SpeedProfile::decode(p)), speed);
     let prc = |p: &[u8]| unsafe {
         black_box(c::mvd_prc_data(p.as_ptr(), p.len(), &mut sequence, &mut points, vp));
         (0..points).for_each(|i| sink(c::mvd_prc_point(p.as_ptr(), p.len(), i, wp, xp, vp)));
     };
-    decode("decode EC, three points", &made(184, &[183, 0, 0, 3]), |p| sink(PrcData::decode(p)), prc, copy);
+    decode("decode EC, three points", &made(184, &[183, 0, 0, 3]), |p| sink(PrcData::decode(p)), prc);
     let club_prc = |p: &[u8]| unsafe {
         let n = black_box(c::mvd_club_prc(p.as_ptr(), p.len()));
         (0..n).for_each(|i| sink(c::mvd_club_prc_point(p.as_ptr(), p.len(), i, wp, xp, vp)));
     };
-    decode("decode EE, three points", &made(229, &[228]), |p| sink(ClubPrc::decode(p)), club_prc, copy);
+    decode("decode EE, three points", &made(229, &[228]), |p| sink(ClubPrc::decode(p)), club_prc);
 }
 
-fn floats(r: &mut Random, copy: f64) {
+fn floats(r: &mut Random) {
     let data: Vec<u8> = (0..BYTES / 5).flat_map(|_| {
         let mut f = ((r.below(60) as i16 - 30) as u16).to_be_bytes().to_vec();
         f.extend_from_slice(&(r.next() as u32).to_be_bytes()[1..]);
@@ -173,18 +170,17 @@ fn floats(r: &mut Random, copy: f64) {
     let (mut value, mut v) = (0f64, [0u64; 3]);
     row(
         "FLOAT40 read",
-        data.len(),
+        data.len() / 5,
         || (0..data.len() / 5).for_each(|i| sink(codec::read_float40(black_box(&data), i * 5))),
         || (0..data.len() / 5).for_each(|i| unsafe {
             black_box(c::mvd_read_float40(black_box(&data).as_ptr(), data.len(), i * 5, &mut value, v.as_mut_ptr()));
         }),
-        copy,
     );
     let xs: Vec<f64> = (0..BYTES / 5).map(|_| f64::from_bits(r.next() & !(1 << 62))).collect();
     let (mut old, mut buf) = (Vec::with_capacity(BYTES + 5), vec![0u8; BYTES + 5]);
     row(
         "FLOAT40 write",
-        xs.len() * 5,
+        xs.len(),
         || {
             old.clear();
             xs.iter().for_each(|&x| codec::write_float40(&mut old, black_box(x)));
@@ -192,21 +188,15 @@ fn floats(r: &mut Random, copy: f64) {
         || xs.iter().enumerate().for_each(|(i, &x)| unsafe {
             black_box(c::mvd_write_float40(buf.as_mut_ptr(), buf.len(), i * 5, black_box(x), v.as_mut_ptr()));
         }),
-        copy,
     );
 }
 
 pub fn run() {
     let mut r = Random::new(8);
     let wires = frames(&mut r);
-    let stream = wires.concat();
-    let mut to = vec![0u8; stream.len()];
-    let copy_seconds = best(|| black_box(&mut to).copy_from_slice(black_box(&stream)));
-    let copy = stream.len() as f64 / copy_seconds / (1 << 20) as f64;
-    println!("plain memory copy: {copy:.0} MiB/s\n");
-    println!("| operation | Rust, MiB/s | port, MiB/s | port / Rust | port / copy |\n|---|---|---|---|---|");
-    splitting(&stream, copy);
-    framing(&wires, copy);
-    decoding(&mut r, copy);
-    floats(&mut r, copy);
+    println!("| operation | port, ns | Rust, ns | port / Rust |\n|---|---|---|---|");
+    splitting(&wires.concat(), wires.len());
+    framing(&wires);
+    decoding(&mut r);
+    floats(&mut r);
 }

@@ -3,7 +3,7 @@
 //!     beside [CASES [SEED]]    compare: short inputs all, the boundaries, and CASES random ones (10 million);
 //!                              prints the count and the seed, or the first case that differs
 //!     beside list DIR          write the fixed list: DIR/stdin has the cases, DIR/stdout the Rust's answers
-//!     beside bench             the speed of both, and the ratio
+//!     beside bench             the time of both, in pairs, and the ratio
 //!     beside differences       the inputs of docs/DIFFERENCES.md, and what each side answers
 mod answer;
 mod bench;
