@@ -3,7 +3,7 @@
 use mathlib.Core.List.{List, [], _∷_}
 use lib.IntN.{ℤ, pos}
 use lib.Ieee.{Float}
-use Rattle.club_prc.specs.declared.ClubPrcPoint.{ClubPrcPoint}
+use Rattle.club_prc.specs.declared.club_prc_point.ClubPrcPoint.{ClubPrcPoint}
 
 abbrev pub clubWhole : ClubPrcPoint → List ℤ
 clubWhole p =
