@@ -1,12 +1,12 @@
 // E5 for C: the text to the front of a lent buffer, and whether a word stands in it.
 // What a call tells, and the buffer, is the rule of the function of that name; specs/Text says what stands where.
 ghost use mathlib.Core.Path.{_≡_};
-ghost use Prim.Native.Nat.{min};
 ghost use lib.ListN.{length};
 ghost use Rattle.shot_text.specs.Trim.{textOf};
 ghost use Rattle.shot_text.specs.Search.{Stands, bytes};
 ghost use Rattle.abi_shot_text.specs.Text.{laid, Flags};
 use abi::flag;
+use points::least;
 use shot_text::ShotText;
 
 // The text to the front of a buffer, as much as fits; answers its length.
@@ -50,10 +50,4 @@ fn lay(xs: &[u8], out: &mut [u8])
         out[i] = xs[i];
         i += 1;
     }
-}
-
-fn least(a: usize, b: usize) -> usize
-    ensures { λ r. ⌜ r ≡ min a b ⌝ }
-{
-    if a < b { a } else { b }
 }
