@@ -1,5 +1,5 @@
 -- The number and the values of a refusal decide it, and so what an answer tells decides the answer.
--- A contract `told r ≡ rule` therefore allows one reply: `one-reply`. Assumes nothing.
+-- A contract `told r ≡ rule` therefore allows one reply: `one-reply`.
 use mathlib.Core.Path.{_≡_, refl, sym, _∙_, ap}
 use mathlib.Core.List.{List}
 use Prim.Native.Nat.{ℕ}
@@ -10,7 +10,8 @@ use lib.IntN.{ℤ}
 use lib.Ieee.{Float}
 use Rattle.general.proofs.One.{one-reply}
 use Rattle.error.specs.declared.WireError.{WireError}
-use Rattle.error.specs.declared.WireError.the-variants.{FrameTooShort, MissingStart, MissingEnd, InvalidEscape, ChecksumMismatch, UnknownBusAddr, PayloadTooShort, NoRoom, BadState, PayloadTooLong, NoField}
+use Rattle.error.specs.declared.WireError.the-variants.{FrameTooShort, MissingStart, MissingEnd, InvalidEscape, ChecksumMismatch, UnknownBusAddr}
+use Rattle.error.specs.declared.WireError.the-variants.{PayloadTooShort, NoRoom, BadState, PayloadTooLong, NoField}
 use Rattle.error.specs.Refusal.{Told, yes, no, numberOf, valuesOf, refused}
 use Rattle.error.specs.declared.ResultUnit.{ResultUnit}
 use Rattle.error.specs.declared.ResultUnit.the-variants as unit

@@ -4,7 +4,8 @@ use Prim.Native.Nat.{ℕ}
 use mathlib.Core.List.{List, [], _∷_, _++_}
 use lib.ListN.{length, drop}
 use Rattle.error.specs.declared.WireError.{WireError}
-use Rattle.error.specs.declared.WireError.the-variants.{FrameTooShort, MissingStart, MissingEnd, InvalidEscape, ChecksumMismatch, UnknownBusAddr, PayloadTooShort, NoRoom, BadState, PayloadTooLong, NoField}
+use Rattle.error.specs.declared.WireError.the-variants.{FrameTooShort, MissingStart, MissingEnd, InvalidEscape, ChecksumMismatch, UnknownBusAddr}
+use Rattle.error.specs.declared.WireError.the-variants.{PayloadTooShort, NoRoom, BadState, PayloadTooLong, NoField}
 
 -- a call tells a value, or a refusal's number with its values
 pub data Told (A : Type 0) : Type 0 where

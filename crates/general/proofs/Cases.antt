@@ -1,5 +1,5 @@
 -- A proof by cases on a test: one for each way that it can come out.
--- Assumes nothing.
+-- Tests of order and of equality come with what they say of the numbers.
 use Prim.Native.Nat.{ℕ, _<_, _≤_}
 use mathlib.Core.Path.{_≡_, refl}
 use mathlib.Core.Bool.{Bool, true, false}

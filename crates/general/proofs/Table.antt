@@ -1,5 +1,5 @@
 -- A test that holds at every entry of a table, computed once, holds at each.
--- The rule of a table is then one `tt`, however long the table is. Assumes nothing.
+-- The rule of a table is then one `tt`, however long the table is.
 use Prim.Native.Nat.{ℕ, zero, suc, _<_}
 use mathlib.Core.Bool.{Bool, true, false, _&&_}
 use mathlib.Core.List.{List, [], _∷_}

@@ -1,14 +1,11 @@
 -- What the code of `frame` is proved to ensure, as the check reads it off src/lib.rt (`Post`), is what the theorem asks of a frame that
--- is sent and gives of one that is parsed. (That of `splitter` and of `view`: stream, proofs/Contract.) Assumes nothing.
+-- is sent and gives of one that is parsed. (That of `splitter` and of `view`: stream, proofs/Contract.)
 use mathlib.Core.Path.{_≡_, sym, ap, _∙_}
 use mathlib.Core.List.{List, _++_}
 use Prim.Native.Nat.{ℕ, _≤_}
 use native.Mathlib.Omega.{arith}
 use lib.ListN.{length, take, drop}
 use lib.Seq.{take-at}
-use contract.Lifetimes.{Lfts}
-use denote.Triple.Clauses.{AtExit}
-use borrow.Fn.Kinds.{Dens, endedOf}
 use Rattle.error.specs.Refusal.{Told, yes, no, onYes, filled}
 use Rattle.error.specs.Result.{toldUsize}
 use Rattle.error.specs.declared.ResultUsize.{ResultUsize}
@@ -19,9 +16,7 @@ use Rattle.frame.specs.Wire.{Fields, fields, wireOf}
 use Rattle.frame.specs.Rule.{encodeRule, parseRule, headerOf, toldRawFrame}
 use Rattle.frame.proofs.Round.{round-trip}
 use Rattle.recovery.specs.Recovery.{Sent}
-use Rattle.frame.proofs.RawFrame.encode.Kinds as encode-kinds
 use Rattle.frame.proofs.RawFrame.encode.Reads as encode
-use Rattle.frame.proofs.RawFrame.parse.Kinds as parse-kinds
 use Rattle.frame.proofs.RawFrame.parse.Reads as parse
 
 -- every frame that `encode` takes and the hold buffer has room for
@@ -37,7 +32,7 @@ filled-front (no k vs) n old new e f = cc
 
 -- A call of `encode` with DEST, SRC, TYPE, payload and wire buffer a that answers Ok n has written a wire at the buffer's front:
 -- the n bytes there are what `Sent` asks for.
-pub encode-sends : (κs : Lfts 2) (a : Dens κs encode-kinds.ps) (r : ResultUsize) (x : AtExit (endedOf 2 encode-kinds.ps encode-kinds.r) κs) → encode.Post κs a r x
+pub encode-sends : (κs a r x : _) → encode.Post κs a r x
     → (n : ℕ) → r ≡ usize.Ok n
     → encodeRule (fields (a .0) (a .1 .0) (a .1 .1 .0) (a .1 .1 .1 .0 .now)) (length (a .1 .1 .1 .1 .0 .now)) ≡ yes (take n (x .1 .1 .1 .1 .0 .now))
 encode-sends κs a r x p n e =
@@ -45,10 +40,11 @@ encode-sends κs a r x p n e =
     filled-front (encodeRule f (length (a .1 .1 .1 .1 .0 .now))) n (a .1 .1 .1 .1 .0 .now) (x .1 .1 .1 .1 .0 .now) (sym (ap toldUsize e) ∙ p .0) (p .1)
 
 -- A call of `parse` with the wire g of a sound frame and a payload buffer that has room: the fields that g was written from.
-pub parse-gives : {H : ℕ} (g : Sent H) (κs : Lfts 2) (a : Dens κs parse-kinds.ps) (r : ResultRawFrame) (x : AtExit (endedOf 2 parse-kinds.ps parse-kinds.r) κs) → parse.Post κs a r x
+pub parse-gives : {H : ℕ} (g : Sent H) (κs a r x : _) → parse.Post κs a r x
     → a .0 .now ≡ g .wire → length (g .fields .payload) ≤ length (a .1 .0 .now)
     → (toldRawFrame r ≡ yes (headerOf (g .fields))) × (x .1 .0 .now ≡ g .fields .payload ++ drop (length (g .fields .payload)) (a .1 .0 .now))
 parse-gives g κs a r x p w l =
     let old = a .1 .0 .now in
-    let e : parseRule (a .0 .now) (length old) ≡ yes (g .fields) = ap (λ (v : List ℕ). parseRule v (length old)) w ∙ round-trip (g .fields) (g .room) (length old) (g .written) l in
+    let e : parseRule (a .0 .now) (length old) ≡ yes (g .fields) =
+    ap (λ (v : List ℕ). parseRule v (length old)) w ∙ round-trip (g .fields) (g .room) (length old) (g .written) l in
     (p .0 ∙ ap (onYes headerOf) e, p .1 ∙ ap (λ (t : Told Fields). filled (onYes (λ (f : Fields). f .payload) t) old) e)

@@ -1,5 +1,5 @@
 -- Three lines worked out, each cut in the middle of a frame: noise with no start pending, noise with one, and a frame exactly as long as
--- the hold buffer. The frame is document 01's (a). Assumes nothing.
+-- the hold buffer. The frame is document 01's (a).
 use mathlib.Core.Path.{_≡_, refl}
 use mathlib.Core.List.{List, [], _∷_}
 use Prim.Native.Nat.{ℕ}

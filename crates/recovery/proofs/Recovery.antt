@@ -85,7 +85,8 @@ recovered {h} {k} {s} {t} noise f fs rest c =
     let e : heard t ≡ hear H [] noise ++ hear H (pending noise) (f .wire ++ after) =
     l .hears ∙ ap (hear H []) i ∙ hear-append H [] noise (f .wire ++ after)
     ∙ ap (λ (x : List ℕ). hear H [] noise ++ hear H x (f .wire ++ after)) (open-after noise) in
-    let p = past noise (f .wire ++ after) (hear H (pending noise) (f .wire ++ after)) t (l .plain) (l .takes ∙ i) (hear H [] noise) (hear-length H [] noise) e in
+    let behind = hear H (pending noise) (f .wire ++ after) in
+    let p = past noise (f .wire ++ after) behind t (l .plain) (l .takes ∙ i) (hear H [] noise) (hear-length H [] noise) e in
     let u = up-to-wire H (p .left) (pending noise) (sent-framed f) after (p .after) (p .plain) (p .hears) (p .rest) in
     record {
       noisy = p .noisy;

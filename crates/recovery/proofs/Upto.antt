@@ -43,7 +43,7 @@ answers-append (c ∷ a) b = rw (answers-append a b, append-assoc)
 
 -- ---- the calls up to the answer a that falls at the end of the bytes v; what they take, and what those after them take and hear
 
-module _ {x : List Said} {a : Said} {y : List Said} {t : List Call} (s : Split x a y t) (v r : List ℕ) (n : length v ≡ suc (length x)) (b : takenBy t ≡ v ++ r) where
+module _ {x y : List Said} {a : Said} {t : List Call} (s : Split x a y t) (v r : List ℕ) (n : length v ≡ suc (length x)) (b : takenBy t ≡ v ++ r) where
   abbrev upto-calls : List Call
   upto-calls = s .before ++ (call (s .took) a ∷ [])
 
@@ -109,9 +109,12 @@ data LastSaid (x : List Said) : Type 0 where
 one-before : (s : Said) (x : List Said) → LastSaid x → LastSaid (s ∷ x)
 one-before s x (said y a n h k e) = said (s ∷ y) a n h k (ap (λ (l : List Said). s ∷ l) e)
 one-before (yes more) x (silent e) = silent (ap (λ (l : List Said). yes more ∷ l) e)
-one-before (yes overlong) x (silent e) = said [] (yes overlong) (length x) (λ q. let z : _≡_ {A = ℕ} 0 1 = cc in omega arith) refl (ap (λ (l : List Said). yes overlong ∷ l) e)
-one-before (yes (frame w)) x (silent e) = said [] (yes (frame w)) (length x) (λ q. let z : _≡_ {A = ℕ} 0 1 = cc in omega arith) refl (ap (λ (l : List Said). yes (frame w) ∷ l) e)
-one-before (no k vs) x (silent e) = said [] (no k vs) (length x) (λ q. let z : _≡_ {A = ℕ} 0 1 = cc in omega arith) refl (ap (λ (l : List Said). no k vs ∷ l) e)
+one-before (yes overlong) x (silent e) =
+    said [] (yes overlong) (length x) (λ q. let z : _≡_ {A = ℕ} 0 1 = cc in omega arith) refl (ap (λ (l : List Said). yes overlong ∷ l) e)
+one-before (yes (frame w)) x (silent e) =
+    said [] (yes (frame w)) (length x) (λ q. let z : _≡_ {A = ℕ} 0 1 = cc in omega arith) refl (ap (λ (l : List Said). yes (frame w) ∷ l) e)
+one-before (no k vs) x (silent e) =
+    said [] (no k vs) (length x) (λ q. let z : _≡_ {A = ℕ} 0 1 = cc in omega arith) refl (ap (λ (l : List Said). no k vs ∷ l) e)
 
 last-said : (x : List Said) → LastSaid x
 last-said [] = silent refl
@@ -159,7 +162,8 @@ module _ (noise r : List ℕ) (y : List Said) (t : List Call) (plain : Plain t) 
         left = drop k noise;
         calls = upto-is s (take k noise) (drop k noise ++ r) front c;
         apart =
-            ap (λ (l : List ℕ). l ++ drop k noise) (taken-append (s .before) (call (s .took) a ∷ []) ∙ ap (λ (l : List ℕ). takenBy (s .before) ++ l) (append-nil (s .took)) ∙ f .0)
+            ap (λ (l : List ℕ). l ++ drop k noise) (taken-append (s .before) (call (s .took) a ∷ []))
+            ∙ rw append-nil (ap (λ (l : List ℕ). l ++ drop k noise) (f .0))
             ∙ all;
         says =
             answers-append (s .before) (call (s .took) a ∷ [])

@@ -15,7 +15,8 @@ use Rattle.search.specs.First.{firstFrom}
 use Rattle.splitter.specs.declared.FrameSplitter.{FrameSplitter}
 use Rattle.splitter.specs.declared.Fed.{Fed}
 use Rattle.splitter.specs.declared.Event.the-variants.{More, Frame, Overlong}
-use Rattle.splitter.specs.Feed.{given, new, holding, marked, isBad, isOpen, isKept, startIn, part, laid, ends, goesOn, runs, feedRule, lengthWith, givenBy}
+use Rattle.splitter.specs.Feed.{given, givenBy, new, holding, marked, isBad, isOpen, isKept, startIn, part, laid, lengthWith}
+use Rattle.splitter.specs.Feed.{ends, goesOn, runs, feedRule}
 
 -- a whole list that is pasted
 pub paste-all : (d : List ℕ) (at : ℕ) (s : List ℕ) (i : ℕ) → i ≡ length s → paste d at s i ≡ laid d at s

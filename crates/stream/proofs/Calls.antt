@@ -1,5 +1,5 @@
 -- One call beside the line: over the bytes that it takes, the two say the same, and the state stands for the frame that is open.
--- Assumes nothing.
+-- So nothing that a call says depends on where the chunk was cut.
 use mathlib.Core.Path.{_≡_, refl, sym, ap, _∙_}
 use mathlib.Core.Bool.{true, false}
 use mathlib.Core.List.{List, [], _∷_, _++_, append-assoc}
@@ -19,7 +19,8 @@ use Rattle.error.specs.Refusal.{yes}
 use Rattle.stream.specs.Stream.{Said, saidOf, answerTo}
 use Rattle.stream.specs.Heard.{atLast}
 use Rattle.splitter.proofs.Laws.{feed-ends, feed-goes-on}
-use Rattle.stream.proofs.Line.{opened, hear, silence, hear-append, opened-append, at-last-add, silent, dropped, goes-on, closes, opens-goes-on, opens-closes}
+use Rattle.stream.proofs.Line.{opened, hear, silence, hear-append, opened-append, at-last-add, silent, dropped}
+use Rattle.stream.proofs.Line.{goes-on, closes, opens-goes-on, opens-closes}
 
 -- the state s and the hold buffer h stand for the open bytes w: they are at the hold's front, or there are more than it has room for
 pub data Stands (s : FrameSplitter) (h w : List ℕ) : Type 0 where
@@ -213,4 +214,5 @@ one-call {s} {h} w c k =
     let all : take (length c) c ≡ c = take-length c in
     let d : Does h c (goesOn s h c i (length c)) (yes more) (length c) (w ++ drop i c) = rw p at (went-on s h c w i (length c) lo (omega arith) k) in
     rw (← feed-goes-on s h c i (i + x) good start refl l)
-    (agree h c w (goesOn s h c i (length c)) (yes more) (length c) (w ++ drop i c) d (omega arith) (rw all (y .heard ∙ sym (silent (length c)))) (rw all (y .still)) (λ z. z)))
+    (agree h c w (goesOn s h c i (length c)) (yes more) (length c) (w ++ drop i c) d (omega arith)
+    (rw all (y .heard ∙ sym (silent (length c)))) (rw all (y .still)) (λ z. z)))

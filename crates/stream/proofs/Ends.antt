@@ -1,5 +1,5 @@
 -- Every offer is answered, and takes at least one byte of a chunk that is not empty, unless the state is refused: so a caller's loop ends.
--- An empty chunk changes nothing. For every cutting there are such calls. Assumes nothing.
+-- An empty chunk changes nothing. For every cutting there are such calls.
 use mathlib.Core.Path.{_≡_, refl, sym, ap, _∙_}
 use mathlib.Core.Bool.{Bool, true, false, cond, _||_}
 use mathlib.Core.List.{List, [], _∷_, _++_, append-nil}
@@ -73,7 +73,8 @@ fed-within f h′ s h c e =
 never : {A : Type 0} (n : ℕ) (vs : List ℕ) (a : A) → no n vs ≡ yes a → ⊥
 never n vs a e = let z : _≡_ {A = ℕ} 0 1 = cc in omega arith
 
-pub fed-moves : (f : Fed) (a : Answer Place) (h′ : List ℕ) (s : FrameSplitter) (h c : List ℕ) → givenBy f h′ ≡ feedRule s h c → toldEvent (f .event) ≡ yes a → 0 < length c → 0 < f .taken
+pub fed-moves : (f : Fed) (a : Answer Place) (h′ : List ℕ) (s : FrameSplitter) (h c : List ℕ) → givenBy f h′ ≡ feedRule s h c → toldEvent (f .event) ≡ yes a
+    → 0 < length c → 0 < f .taken
 fed-moves f a h′ s h c e y p =
     let t : f .taken ≡ feedRule s h c .taken = ap (λ (g : Given). g .taken) e in
     let z : feedRule s h c .answer ≡ yes a = sym (ap (λ (g : Given). g .answer) e) ∙ y in

@@ -1,5 +1,5 @@
 -- What is heard at a byte, but More, is the answer of the one call that took this byte last.
--- Assumes nothing.
+-- `split` cuts a run of calls at such an answer.
 use mathlib.Core.Path.{_≡_, refl, sym, ap, _∙_}
 use mathlib.Core.List.{List, [], _∷_, _++_, append-assoc}
 use Prim.Native.Nat.{ℕ, zero, suc, _+_, _<_}
@@ -18,7 +18,8 @@ data Where (m : ℕ) (s : Said) (u x : List Said) (a : Said) (y : List Said) : T
   before : (x′ : List Said) → length x ≡ suc m + length x′ → spoken x ≡ unlessMore s ++ spoken x′ → u ≡ x′ ++ (a ∷ y) → Where m s u x a y
   silent : a ≡ yes more → Where m s u x a y
 
-later : (m : ℕ) (s : Said) (u : List Said) (z : Said) (x : List Said) (a : Said) (y : List Said) → yes more ≡ z → Where m s u x a y → Where (suc m) s u (z ∷ x) a y
+later : (m : ℕ) (s : Said) (u : List Said) (z : Said) (x : List Said) (a : Said) (y : List Said) → yes more ≡ z → Where m s u x a y
+    → Where (suc m) s u (z ∷ x) a y
 later m s u z x a y e (here p q n k) = here p q (ap suc n) (rw (← e) k)
 later m s u z x a y e (before x′ n k r) = before x′ (omega arith) (rw (← e) k) r
 later m s u z x a y e (silent p) = silent p
@@ -43,7 +44,8 @@ pub record Split (x : List Said) (a : Said) (y : List Said) (t : List Call) : Ty
   pub rest : heard after ≡ y
   pub plain : Plain after
 
-one-more : (l : List ℕ) (s : Said) (t : List Call) (x x′ : List Said) (a : Said) (y : List Said) → length x ≡ length l + length x′ → spoken x ≡ unlessMore s ++ spoken x′
+one-more : (l : List ℕ) (s : Said) (t : List Call) (x x′ : List Said) (a : Said) (y : List Said) → length x ≡ length l + length x′
+    → spoken x ≡ unlessMore s ++ spoken x′
     → Split x′ a y t → Split x a y (call l s ∷ t)
 one-more l s t x x′ a y n k r =
     record {

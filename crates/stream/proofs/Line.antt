@@ -1,5 +1,5 @@
 -- The line, byte by byte, with no state but the bytes w of the frame that is open: none between two frames.
--- What it says at each byte is what the calls say, however they are cut (proofs/Calls). Assumes nothing.
+-- What it says at each byte is what the calls say, however they are cut (proofs/Calls).
 use mathlib.Core.Path.{_≡_, refl, ap, _∙_}
 use mathlib.Core.Bool.{Bool, cond}
 use mathlib.Core.List.{List, [], _∷_, _++_, append-assoc, append-nil}
@@ -96,7 +96,8 @@ module _ (H : ℕ) where
       (simp (e, r .0, append-assoc), simp (e, r .1)))
 
   -- the same of a frame that opens at the first byte
-  pub opens-goes-on : (c : List ℕ) → suc (length c) ≤ indexOf 0xF1 (0xF0 ∷ c) → (hear H [] (0xF0 ∷ c) ≡ silence (suc (length c))) × (opened [] (0xF0 ∷ c) ≡ 0xF0 ∷ c)
+  pub opens-goes-on : (c : List ℕ) → suc (length c) ≤ indexOf 0xF1 (0xF0 ∷ c)
+      → (hear H [] (0xF0 ∷ c) ≡ silence (suc (length c))) × (opened [] (0xF0 ∷ c) ≡ 0xF0 ∷ c)
   unfolding indexOf
   opens-goes-on c l =
       let r = goes-on 0xF0 [] c (le-of-suc-le-suc l) in

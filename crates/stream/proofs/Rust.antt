@@ -1,5 +1,5 @@
 -- However the stream is cut, for the Rust and for the port, the port's answers are the Rust's frames, those longer than H replaced.
--- Assumes nothing.
+-- `line-says` has what a stream calls for, `as-the-rust` what calls over it answer.
 use mathlib.Core.Path.{_≡_, refl, sym, ap, _∙_}
 use mathlib.Core.Bool.{false}
 use mathlib.Core.List.{List, [], _∷_, _++_, map, map-append}
@@ -85,7 +85,8 @@ module _ (H : ℕ) where
       rw (turn-closes (turns n) b k) (record {
         says =
             ap (λ (y : List ℕ). spoken (hear H [] y)) all
-            ∙ rw (hear-append, c .heard, c .shut, spoken-append (atLast m (answerTo H p)) (hear H [] (drop m b)), spoken-last m (answerTo H p), said-to p, again .says);
+            ∙ rw (hear-append, c .heard, c .shut, spoken-append (atLast m (answerTo H p)) (hear H [] (drop m b)))
+            (rw (spoken-last m (answerTo H p), said-to p, again .says));
         leaves = ap (opened []) all ∙ rw (opened-append, c .shut) (again .leaves);
       }))
       (λ k.

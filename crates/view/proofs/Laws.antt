@@ -1,5 +1,5 @@
 -- Laws of specs/View that the proof cites: a place that fits, and one that does not.
--- Assumes nothing.
+-- Index and length are added with no wrap.
 use mathlib.Core.Path.{_≡_}
 use mathlib.Core.List.{List, []}
 use Prim.Native.Nat.{ℕ, _+_, _-_, _≤_, _<_}

@@ -1,5 +1,5 @@
 -- `closes` meets its contract: at each `return` the tests that led there say which case of `ends` holds.
--- Assumes nothing.
+-- The bytes that are held are those that `lay` ensures.
 use mathlib.Core.Path.{_≡_, sym, _∙_}
 use mathlib.Core.Bool.{true}
 use Prim.Native.Nat.{_-_, _≤_}
@@ -71,7 +71,8 @@ returns-3 c =
     let l = c .before .before .before in
     let t = l .before .before .before in
     let a = t .before .before .before .before .before .args in
-    ends-held (a .s) (a .hold .now) (a .chunk .now) (a .from) (a .to) (c .ended3 .result) (kept (t .before)) (l .lay .last .0) (l .lay .ensures) (c .ended3 .ensures) (t .if2 .left)
+    ends-held (a .s) (a .hold .now) (a .chunk .now) (a .from) (a .to) (c .ended3 .result) (kept (t .before)) (l .lay .last .0) (l .lay .ensures)
+    (c .ended3 .ensures) (t .if2 .left)
 
 pub closes-spec : {M : Type 1} → statement M
 closes-spec =

@@ -1,5 +1,5 @@
 -- `ended` meets its contract: the splitter is what `new` ensures.
--- Assumes nothing.
+-- Event and bytes taken are passed on.
 use borrow.Author.Needs.{needs}
 use Rattle.splitter.proofs.ended.Statement.{statement}
 use Rattle.splitter.proofs.ended.Tie as tie

@@ -1,5 +1,5 @@
 -- `lay` meets its contract. The loop's invariant: dst is its first self with the first i bytes of src pasted in.
--- Assumes nothing.
+-- At its end all of src is.
 use mathlib.Core.Path.{_≡_, refl, _∙_}
 use Prim.Native.Nat.{_-_, _≤_}
 use native.Mathlib.Numerals.{add-one}
@@ -49,7 +49,9 @@ same-length : tie.Need-same-length Inv-loop μ-loop
 same-length c = c .before .loop .inv .1 .1
 
 returns : tie.Need-returns Inv-loop μ-loop
-returns c = c .before .loop .inv .1 .0 ∙ paste-all (c .before .before .args .dst .now) (c .before .before .args .at) (c .before .before .args .src .now) (c .before .loop .i) (omega arith)
+returns c =
+    let a = c .before .before .args in
+    c .before .loop .inv .1 .0 ∙ paste-all (a .dst .now) (a .at) (a .src .now) (c .before .loop .i) (omega arith)
 
 pub lay-spec : {M : Type 1} → statement M
 lay-spec =

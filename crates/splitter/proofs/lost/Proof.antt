@@ -1,5 +1,5 @@
 -- `lost` meets its contract: the room that is left is compared, so that no sum can wrap.
--- Assumes nothing.
+-- A frame with the mark has been lost already.
 use borrow.Author.Needs.{needs}
 use Rattle.splitter.proofs.Laws.{lost-is}
 use Rattle.splitter.proofs.lost.Statement.{statement}

@@ -25,7 +25,8 @@ returns : tie.Need-returns
 returns c =
     let e = c .before in
     let a = e .before .before .before .before .args in
-    goes-lost (a .s) (a .hold .now) (a .chunk .now) (a .from) (length (a .chunk .now)) _ (c .«went-on» .ensures) (not-true _ (sym (e .before .lost .ensures) ∙ e .if1 .taken))
+    goes-lost (a .s) (a .hold .now) (a .chunk .now) (a .from) (length (a .chunk .now)) _ (c .«went-on» .ensures)
+    (not-true _ (sym (e .before .lost .ensures) ∙ e .if1 .taken))
 
 -- past the test
 kept : (c : tie.Else1) → let a = c .before .before .before .before .args in isKept (a .s) (length (a .hold .now)) (length (a .chunk .now) - a .from) ≡ true
@@ -44,7 +45,8 @@ lay-requires : tie.Need-lay-requires
 lay-requires c κs =
     let e = c .before .before in
     let a = e .before .before .before .before .args in
-    let f : lengthWith (a .s) (length (a .chunk .now) - a .from) ≤ length (a .hold .now) = kept-is (a .s) (length (a .hold .now)) (length (a .chunk .now) - a .from) (kept e) .1 in
+    let n = length (a .chunk .now) - a .from in
+    let f : lengthWith (a .s) n ≤ length (a .hold .now) = kept-is (a .s) (length (a .hold .now)) n (kept e) .1 in
     omega arith
 
 add-went-on : tie.Need-add-went-on
@@ -65,4 +67,17 @@ returns-2 c =
 
 pub stays-spec : {M : Type 1} → statement M
 stays-spec =
-    tie.close (tie.spec sub-added lost-requires went-on-requires returns sub-lay part-lay-start part-lay-end lay-requires add-went-on went-on-requires-2 same-length returns-2)
+    tie.close
+    (tie.spec
+    sub-added
+    lost-requires
+    went-on-requires
+    returns
+    sub-lay
+    part-lay-start
+    part-lay-end
+    lay-requires
+    add-went-on
+    went-on-requires-2
+    same-length
+    returns-2)

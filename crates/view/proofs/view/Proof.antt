@@ -1,5 +1,5 @@
 -- `view` meets its contract: at each `return` the tests that led there say which case of `viewRule` holds.
--- Assumes nothing.
+-- Bytes and address go by the same tests.
 use mathlib.Core.Logic.{⊎-elim}
 use Prim.Native.Nat.{_+_, _<_, _≤_}
 use native.Mathlib.Omega.{arith}
@@ -28,8 +28,10 @@ part-result-end c = search needs
 returns : tie.Need-returns
 returns c =
     let a = c .before .before .before .before .args in
-    let m : a .place .start + a .place .len ≤ length (a .hold .now) = omega arith in
-    (simp (c .before .before .before .if1 .taken) (part-fits (a .hold .now) (a .place .start) (a .place .len) m), simp (c .before .before .before .if1 .taken, le-leb _ _ m))
+    let m : a .place .start + a .place .len ≤ length (a .hold .now) = omega arith in (
+      simp (c .before .before .before .if1 .taken) (part-fits (a .hold .now) (a .place .start) (a .place .len) m),
+      simp (c .before .before .before .if1 .taken, le-leb _ _ m),
+    )
 
 sub-result-2 : tie.Need-sub-result-2
 sub-result-2 c = search needs
@@ -64,8 +66,10 @@ part-result-end-3 c = search needs
 returns-3 : tie.Need-returns-3
 returns-3 c =
     let a = c .before .before .before .before .args in
-    let m : a .place .start + a .place .len ≤ length (a .chunk .now) = omega arith in
-    (simp (c .before .before .before .if1 .left) (part-fits (a .chunk .now) (a .place .start) (a .place .len) m), simp (c .before .before .before .if1 .left, le-leb _ _ m))
+    let m : a .place .start + a .place .len ≤ length (a .chunk .now) = omega arith in (
+      simp (c .before .before .before .if1 .left) (part-fits (a .chunk .now) (a .place .start) (a .place .len) m),
+      simp (c .before .before .before .if1 .left, le-leb _ _ m),
+    )
 
 sub-result-4 : tie.Need-sub-result-4
 sub-result-4 c = search needs

@@ -1,4 +1,5 @@
 -- `BusAddr::from_byte` meets its contract: each arm is the rule's case.
+-- A byte that no arm names is refused with itself.
 use mathlib.Core.Path.{sym, ap}
 use borrow.Author.Tests.{ne-eqb}
 use Rattle.addr.specs.Address.{addressRule}

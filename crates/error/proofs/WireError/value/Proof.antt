@@ -1,4 +1,5 @@
 -- `WireError::value` meets its contract: zeros behind a list read as its default does.
+-- So the index needs no second test.
 use borrow.Author.Needs.{needs}
 use Prim.Native.Nat.{ℕ, zero, suc, _-_, _≤_}
 use mathlib.Core.Path.{_≡_, refl, sym, ap, _∙_}

@@ -1,4 +1,5 @@
 -- `WireError::values` meets its contract, case by case.
+-- Each arm is one row of document 01's table, zeros behind it.
 use borrow.Author.Needs.{needs}
 use Prim.Native.Nat.{ℕ, _-_}
 use mathlib.Core.Path.{sym, ap}

@@ -1,5 +1,5 @@
 -- `FrameSplitter::feed` meets its contract: what its callees ensure, put together by the laws of `feedRule`.
--- Assumes nothing.
+-- Each return is one case of it: refused, ended, or gone on.
 use mathlib.Core.Path.{sym, _∙_}
 use native.Mathlib.Omega.{arith}
 use Rattle.splitter.proofs.Laws.{not-bad, feed-bad, feed-ends, feed-goes-on}

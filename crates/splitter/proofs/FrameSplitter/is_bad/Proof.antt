@@ -1,5 +1,5 @@
 -- `is_bad` meets its contract: at each `return` the tests that led there say what `isBad` is.
--- Assumes nothing.
+-- Each of its three returns is one case.
 use borrow.Author.Tests.{lt-ltb, le-ltb}
 use Rattle.splitter.proofs.FrameSplitter.is_bad.Statement.{statement}
 use Rattle.splitter.proofs.FrameSplitter.is_bad.Tie as tie
