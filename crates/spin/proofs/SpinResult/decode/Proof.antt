@@ -8,7 +8,8 @@ use Rattle.spin.proofs.SpinResult.decode.Tie as tie
 returns : tie.Need-returns
 returns c =
     let d = c .before in
-    rw (d .payload-too-short .ensures) (short spinOf 0xEF 138 (d .before .before .before .args .payload .now) (d .before .if1 .taken) (c .zero-spin .ensures))
+    let p = d .before .before .before .args .payload .now in
+    rw (d .payload-too-short .ensures) (short spinOf 0xEF 138 p (d .before .if1 .taken) (c .zero-spin .ensures))
 
 returns-2 : tie.Need-returns-2
 returns-2 c = whole spinOf 0xEF 138 (c .before .before .before .args .payload .now) (c .before .if1 .left) (c .read-spin .ensures)

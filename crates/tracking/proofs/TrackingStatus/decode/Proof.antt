@@ -8,7 +8,8 @@ use Rattle.tracking.proofs.TrackingStatus.decode.Tie as tie
 returns : tie.Need-returns
 returns c =
     let d = c .before in
-    rw (d .payload-too-short .ensures) (short trackingOf 0xE9 82 (d .before .before .before .args .payload .now) (d .before .if1 .taken) (c .zero-tracking .ensures))
+    let p = d .before .before .before .args .payload .now in
+    rw (d .payload-too-short .ensures) (short trackingOf 0xE9 82 p (d .before .if1 .taken) (c .zero-tracking .ensures))
 
 returns-2 : tie.Need-returns-2
 returns-2 c = whole trackingOf 0xE9 82 (c .before .before .before .args .payload .now) (c .before .if1 .left) (c .read-tracking .ensures)
