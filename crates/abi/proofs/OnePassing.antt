@@ -1,5 +1,5 @@
 -- Two replies that one shape of contract allows are equal, and so is every lent place at exit: the shape is `Passed`.
--- One law for each company that `Passed` keeps: places for the value, none, and a buffer with its own equation.
+-- One law for each number of places that the value has, and one for a call that also leaves a buffer by an equation of its own.
 use Prim.Native.Nat.{ℕ}
 use mathlib.Core.Path.{_≡_, ap}
 use mathlib.Core.List.{List}

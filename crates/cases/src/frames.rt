@@ -42,13 +42,6 @@ pub(crate) fn encode(head: &[u8], b: u64, payload: &[u8]) {
     say::bytes(wire);
 }
 
-struct Splitter {
-    count: usize,
-    skipping: u8,
-    at: usize,
-    told: u64,
-}
-
 // An empty chunk, offered to a state that the case gives, with a hold buffer of the case's length.
 pub(crate) fn state(a: usize, head: &[u8], data: &[u8]) {
     let mut room = lent();
@@ -78,6 +71,13 @@ pub(crate) fn split(a: usize, b: u64, stream: &[u8]) {
     offer(sizes, stream, hold, true);
     say::hex(cut(hold, 0, state.count));
     io::write_all(STDOUT_FILENO, b"\n");
+}
+
+struct Splitter {
+    count: usize,
+    skipping: u8,
+    at: usize,
+    told: u64,
 }
 
 // Chunks of the eight sizes in turn, each until all of it is taken; `shown` says whether bytes are printed or lengths.

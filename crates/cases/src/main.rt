@@ -15,18 +15,43 @@ fn main() {
     replay(&text[..n]);
 }
 
-// Room for the list. The contract gives the length, which lending it needs.
-fn text_buffer() -> [u8; 1048576]
-    ensures { λ r. ⌜ 1048576 ≡ length r ⌝ }
-{
-    [0; 1048576]
-}
-
 // What a lent buffer holds before a call.
 pub(crate) fn lent() -> [u8; 1024]
     ensures { λ r. ⌜ 1024 ≡ length r ⌝ }
 {
     [0xA5; 1024]
+}
+
+// ---- the parts of a case
+
+// The number of eight bytes at a place of the head.
+pub(crate) fn number(head: &[u8], at: usize) -> u64 {
+    let high = integer::uint32_at(head, at);
+    let low = integer::uint32_at(head, std::num::wrapping_add_usize(at, 4));
+    (high as u64) << 32 | low as u64
+}
+
+// A float by its bits; a NaN is any NaN.
+pub(crate) fn float(bits: u64) -> f64 {
+    if 0x7FF0_0000_0000_0000 < bits % 0x8000_0000_0000_0000 {
+        0.0 / 0.0
+    } else {
+        f64::from_bits(bits)
+    }
+}
+
+// A number of a buffer's bytes: n, or all where there are fewer. `&buf[..n]` then needs no proof.
+pub(crate) fn within(n: usize, buf: &[u8]) -> usize
+    ensures { λ r. ⌜ Front r (now (buf .entry)) ⌝ }
+{
+    if n < buf.len() { n } else { buf.len() }
+}
+
+// Room for the list. The contract gives the length, which lending it needs.
+fn text_buffer() -> [u8; 1048576]
+    ensures { λ r. ⌜ 1048576 ≡ length r ⌝ }
+{
+    [0; 1048576]
 }
 
 // Each line in turn.
@@ -92,24 +117,6 @@ fn answer(head: &[u8], data: &[u8]) {
     }
 }
 
-// ---- the parts of a case
-
-// The number of eight bytes at a place of the head.
-pub(crate) fn number(head: &[u8], at: usize) -> u64 {
-    let high = integer::uint32_at(head, at);
-    let low = integer::uint32_at(head, std::num::wrapping_add_usize(at, 4));
-    (high as u64) << 32 | low as u64
-}
-
-// A float by its bits; a NaN is any NaN.
-pub(crate) fn float(bits: u64) -> f64 {
-    if 0x7FF0_0000_0000_0000 < bits % 0x8000_0000_0000_0000 {
-        0.0 / 0.0
-    } else {
-        f64::from_bits(bits)
-    }
-}
-
 // The bytes of a line of hex from a digit on, at the front of a buffer, and how many.
 fn unhex(hex: &[u8], from: usize, out: &mut [u8]) -> usize {
     let mut at = from;
@@ -132,11 +139,4 @@ fn digit(hex: &[u8], at: usize) -> u8 {
     } else {
         std::num::wrapping_sub_u8(glyph, 87)
     }
-}
-
-// A number of a buffer's bytes: n, or all where there are fewer. `&buf[..n]` then needs no proof.
-pub(crate) fn within(n: usize, buf: &[u8]) -> usize
-    ensures { λ r. ⌜ Front r (now (buf .entry)) ⌝ }
-{
-    if n < buf.len() { n } else { buf.len() }
 }

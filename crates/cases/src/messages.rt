@@ -89,13 +89,6 @@ pub(crate) fn speed_profile(a: usize, payload: &[u8]) {
     say::end();
 }
 
-// A number of a buffer's samples, as `within` is of bytes.
-fn samples_within(n: usize, buf: &[f64]) -> usize
-    ensures { λ r. ⌜ Front r (now (buf .entry)) ⌝ }
-{
-    if n < buf.len() { n } else { buf.len() }
-}
-
 pub(crate) fn prc_data(data: &[u8]) {
     let mut sequence = 0i16;
     let mut points = 0usize;
@@ -189,4 +182,11 @@ pub(crate) fn bay_log(head: &[u8], b: u64, data: &[u8]) {
     let event = integer::uint32_at(head, 5);
     let k = abi_bay_log::mvd_bay_log(event, data, buf, &mut values);
     say::lent(k, &values, buf);
+}
+
+// A number of a buffer's samples, as `within` is of bytes.
+fn samples_within(n: usize, buf: &[f64]) -> usize
+    ensures { λ r. ⌜ Front r (now (buf .entry)) ⌝ }
+{
+    if n < buf.len() { n } else { buf.len() }
 }

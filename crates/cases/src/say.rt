@@ -8,15 +8,6 @@ pub(crate) fn told(k: u64, values: &[u64; 3]) {
     wholes(values, values_of(k));
 }
 
-fn values_of(k: u64) -> usize {
-    match k {
-        7 => 3,
-        4 | 5 | 8 => 2,
-        0 | 3 | 9 => 0,
-        _ => 1,
-    }
-}
-
 pub(crate) fn whole(n: u64) {
     io::write_all(STDOUT_FILENO, b" ");
     io::print_decimal(STDOUT_FILENO, n);
@@ -30,13 +21,6 @@ pub(crate) fn signed(n: i32) {
     } else {
         whole(bits as u64);
     }
-}
-
-// The 32 bits of a number, as INT32 puts them: a cast would ask that it is not negative.
-fn bits_of(n: i32) -> u32 {
-    let mut word = [0u8; 4];
-    integer_write::write_int32(&mut word, 0, n);
-    integer::uint32_at(&word, 0)
 }
 
 pub(crate) fn float(x: f64) {
@@ -130,4 +114,20 @@ pub(crate) fn record(k: u64, values: &[u64; 3], whole: &[i32], figures: &[f64]) 
 pub(crate) fn lent(k: u64, values: &[u64; 3], buf: &[u8]) {
     told(k, values);
     bytes(buf);
+}
+
+fn values_of(k: u64) -> usize {
+    match k {
+        7 => 3,
+        4 | 5 | 8 => 2,
+        0 | 3 | 9 => 0,
+        _ => 1,
+    }
+}
+
+// The 32 bits of a number, as INT32 puts them: a cast would ask that it is not negative.
+fn bits_of(n: i32) -> u32 {
+    let mut word = [0u8; 4];
+    integer_write::write_int32(&mut word, 0, n);
+    integer::uint32_at(&word, 0)
 }
