@@ -1,7 +1,9 @@
 // A capture on standard input: read to its end, and document 01's line for each event and the line at the end printed.
-// The work on a piece is `session`'s, proved; here a piece is read, and its lines are written in one go.
+// The work on a piece is `session`'s; the calls are those of a run of session: specs/Program, whose theorems say what is printed.
 ghost use mathlib.Core.Path.{_≡_};
 ghost use lib.ListN.{length};
+ghost use Rattle.session.specs.Piece.{stage};
+ghost use Rattle.session.specs.Program.{Reached};
 use error::ResultUsize;
 use session::Session;
 
@@ -24,10 +26,14 @@ fn line_buffer() -> [u8; 1048576]
     [0; 1048576]
 }
 
-// Reads once in each turn and prints the lines of what came, to the end of the input or where a call fails.
+// Reads once in each turn and prints the lines of what came, to the end of the input or where a call fails. The session at the end is
+// one that calls of `piece` lead to, each with room for its lines.
 // A proved loop has to end, and nothing says that the input does: the turns are counted down from a
 // number that no run uses up.
-fn read_all(hold: &mut [u8], payload: &mut [u8], piece: &mut [u8], lines: &mut [u8]) -> Session {
+fn read_all(hold: &mut [u8], payload: &mut [u8], piece: &mut [u8], lines: &mut [u8]) -> Session
+    requires { ⌜ (length (now piece) ≡ 8192) × (length (now lines) ≡ 1048576) ⌝ }
+    ensures { λ r. ⌜ Reached (now (hold .entry)) (now (payload .entry)) (stage r (now (hold .exit)) (now (payload .exit))) ⌝ }
+{
     let mut session = Session::new();
     let mut turns = u64::MAX;
     while turns > 0 {

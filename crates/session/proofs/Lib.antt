@@ -4,6 +4,7 @@ pub mod Events
 pub mod Pieces
 pub mod Rules
 pub mod Printed
+pub mod Reached
 pub mod Contract
 pub mod Goes
 pub mod One

@@ -26,6 +26,12 @@ pub data Pieces : Stage → List (List ℕ) → List ℕ → Stage → Type 0 wh
       → Pieces (stage (r .session) h p) cs text t′
       → Pieces t (c ∷ cs) (frontOf (toldUsize (r .reply)) out′ ++ text) t′
 
+-- some such calls, from fresh, lead to a stage
+pub record Reached (hold payload : List ℕ) (t : Stage) : Type 0 where
+  pub cs : List (List ℕ)
+  pub text : List ℕ
+  pub pieces : Pieces (first hold payload) cs text t
+
 -- The whole run, from fresh, with a hold and a payload buffer: the pieces cs, then the line at the end, in a buffer of 128 bytes or more.
 pub record Run (hold payload : List ℕ) (cs : List (List ℕ)) (printed : List ℕ) : Type 0 where
   pub text : List ℕ
