@@ -1,5 +1,5 @@
 #!/usr/bin/env python3
-"""Writes the sample captures, the program's own capture, and beside each what document 01 says is printed for it."""
+"""Writes the sample captures, what `frames` and `frames_run` are run on, and beside each what document 01 says is printed for it."""
 import pathlib
 import sys
 
@@ -8,6 +8,7 @@ from model import encode, frames
 
 ROOT = pathlib.Path(__file__).resolve().parent.parent
 APP, DSP = 0x10, 0x40
+EXAMPLE = b"\x00\xF0\x40\x10\x01\x00\x51\xF1\xF0\xF1"
 
 
 def int24(*numbers):
@@ -64,15 +65,22 @@ def noisy():
 def long():
     """Longer than a piece: frames lie across its end, one as long as the hold buffer and one longer, one left open."""
     full = b"\xF0" + bytes(k % 0xF0 for k in range(2046)) + b"\xF1"
-    return b"".join([b"\x00\xF0\x40\x10\x01\x00\x51\xF1\xF0\xF1", full, b"\xF0\x01" + full[1:], noisy(), b"\xF1", shot(), encode(APP, DSP, 0xEC, bytes(1900)), b"\xF0" + bytes(2060)])
+    return b"".join([EXAMPLE, full, b"\xF0\x01" + full[1:], noisy(), b"\xF1", shot(), encode(APP, DSP, 0xEC, bytes(1900)), b"\xF0" + bytes(2060)])
+
+
+def small():
+    """What frames_run prints of its own streams, each at once and then cut: the hold buffer 2,048 bytes long, then shorter."""
+    streams = [(2048, EXAMPLE), *((hold, EXAMPLE + b"\xF0") for hold in (7, 6, 1, 0))]
+    return "".join(2 * frames(stream, hold) for hold, stream in streams)
 
 
 def main():
     for name, stream in [("samples/shot", shot()), ("samples/noise", noisy())]:
         (ROOT / f"{name}.bin").write_bytes(stream)
         (ROOT / f"{name}.txt").write_text(frames(stream))
-    (ROOT / "crates/frames/stdin").write_bytes(long())
-    (ROOT / "crates/frames/stdout").write_text(frames(long()))
+    for name, stream, before in [("frames", EXAMPLE, ""), ("frames_run", long(), small())]:
+        (ROOT / f"crates/{name}/stdin").write_bytes(stream)
+        (ROOT / f"crates/{name}/stdout").write_text(before + frames(stream))
 
 
 main()

@@ -72,8 +72,8 @@ def parse(wire):
     return None, units[0][0], units[1][0], units[2][0], len(units) - 5
 
 
-def line(number, wire):
-    if len(wire) > HOLD:
+def line(number, wire, hold):
+    if len(wire) > hold:
         return f"{number} - LONG"
     answer = parse(wire)
     if answer[0] is None:
@@ -81,11 +81,11 @@ def line(number, wire):
     return f"{number} {len(wire)} NO " + " ".join(map(str, answer))
 
 
-def frames(stream):
+def frames(stream, hold=HOLD):
     """All that the program prints."""
     wires, rest = split(stream)
-    end = f"end {len(rest)} 0" if len(rest) <= HOLD else "end 0 1"
-    return "".join(text + "\n" for text in [*(line(n, w) for n, w in enumerate(wires)), end])
+    end = f"end {len(rest)} 0" if len(rest) <= hold else "end 0 1"
+    return "".join(text + "\n" for text in [*(line(n, w, hold) for n, w in enumerate(wires)), end])
 
 
 if __name__ == "__main__":

@@ -1,7 +1,7 @@
--- An answer passes to C as what it tells, a value or a refusal, over the type of the value; and no two replies are allowed.
--- Assumes nothing.
+-- An answer passes to C as what it tells, a value or a refusal, over the type of the value.
+-- The proofs of the exported calls cite these laws; that no two replies are allowed is proofs/OnePassing.
 use Prim.Native.Nat.{ℕ}
-use mathlib.Core.Path.{_≡_, refl, sym, ap, subst, _∙_}
+use mathlib.Core.Path.{_≡_, refl, ap, subst, _∙_}
 use mathlib.Core.List.{List}
 use Rattle.error.specs.declared.WireError.{WireError}
 use Rattle.error.specs.declared.ResultUnit.{ResultUnit}
@@ -42,8 +42,3 @@ module _ {R A : Type 0} (f : R → A) {w : Told Unit × R} {a : ResultUnit} {r :
   pub hides : (e : WireError) → Err e ≡ a → {k : ℕ} {words : List ℕ} → (k ≡ numberOf e) × (words ≡ three (valuesOf e))
       → Passed (besides f w) old olds k old words
   hides e p q = refuses e (told-of p) old olds q
-
--- two allowed replies are equal
-pub one-passing : {A : Type 0} {t : Told A} {old : A} {olds : List ℕ} {k l : ℕ} {v w : A} {vs ws : List ℕ}
-    → Passed t old olds k v vs → Passed t old olds l w ws → (k ≡ l) × (v ≡ w) × (vs ≡ ws)
-one-passing p q = (p .code ∙ sym (q .code), p .value ∙ sym (q .value), p .values ∙ sym (q .values))

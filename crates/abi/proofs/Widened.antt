@@ -1,5 +1,5 @@
 -- A number of 16 bits that a record holds, made one of 32 and held in a list: it is the same.
--- Assumes nothing.
+-- `wide` makes it one of 32; its list holds it by its bits.
 use Prim.Native.Nat.{_<_, _^_}
 use mathlib.Core.Path.{_≡_, _∙_}
 use native.Mathlib.Omega.{arith}

@@ -1,2 +1,3 @@
 -- How an answer passes to C.
+-- Every exported contract cites it.
 pub mod Answer

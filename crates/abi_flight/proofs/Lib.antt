@@ -1,2 +1,3 @@
--- The laws that the proofs of the exported calls on D4, E8 and ED share.
-pub mod Laid
+-- No two replies are allowed.
+-- It is all that this crate proves beside its contracts.
+pub mod One

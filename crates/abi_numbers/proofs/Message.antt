@@ -1,5 +1,5 @@
 -- The type byte decides which message is asked, or that none is.
--- Assumes nothing.
+-- The three bytes differ, so no test hides another.
 use Prim.Native.Nat.{ℕ}
 use mathlib.Core.Path.{_≡_, sym, ap}
 use mathlib.Core.List.{List, [], _∷_}

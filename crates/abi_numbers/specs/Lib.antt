@@ -1,2 +1,3 @@
 -- What the contracts of the exported calls on numbers cite.
+-- Which message is asked, and where its answer lies.
 pub mod Question

@@ -1,5 +1,5 @@
 -- The numbers of a row of antenna elements: two whole ones for each, and its peak; one more element adds its own at the end.
--- Assumes nothing.
+-- The loops that list them keep these laws.
 use Prim.Native.Nat.{ℕ, suc, _+_, _*_, _<_}
 use mathlib.Core.Path.{_≡_, refl, sym, ap, _∙_}
 use mathlib.Core.List.{List, [], _∷_, _++_}
@@ -12,6 +12,7 @@ use lib.Seq.{sets, take-suc, set-comm}
 use Rattle.spin.specs.declared.AntennaElement.{AntennaElement}
 use Rattle.abi_spin.specs.Numbers.{elementsWhole, peaks}
 use Rattle.general.proofs.Stores.{sets-append}
+use Rattle.abi.proofs.Laid.{step}
 use Rattle.abi_spin.proofs.Filled.{filled}
 
 append : (es fs : List AntennaElement) → elementsWhole (es ++ fs) ≡ elementsWhole es ++ elementsWhole fs
@@ -36,19 +37,11 @@ one-more es l i d h =
     rw next (now ∙ ap (sets l 1) (sym more))
 
 module _ {A : Type 0} where
-  -- a store before a run of stores, or behind it
+  -- a store before a run of stores
   before : (vs l : List A) (j k : ℕ) (x : A) → k < j → set (sets l j vs) k x ≡ sets (set l k x) j vs
   before [] l j k x h = refl
   before (v ∷ vs) l j k x h =
       before vs (set l j v) (suc j) k x (omega arith) ∙ ap (λ (m : List A). sets m (suc j) vs) (set-comm l j k v x (λ e. omega arith))
-
-  behind : (vs l : List A) (j i : ℕ) (d : A) → i < length vs
-      → set (sets l j (take i vs)) (j + i) (getD vs i d) ≡ sets l j (take (i + 1) vs)
-  behind vs l j i d h =
-      let n : i ≡ length (take i vs) = omega (arith, length-take i vs) in
-      ap (λ (k : ℕ). set (sets l j (take i vs)) (j + k) (getD vs i d)) n
-      ∙ sets-append (take i vs) (getD vs i d ∷ []) l j
-      ∙ ap (sets l j) (sym (ap (λ (k : ℕ). take k vs) (add-one i) ∙ take-suc vs i d h))
 
 -- one more element, and one more of the rest
 pub both-more : (es : List AntennaElement) (rest l : List ℤ) (i : ℕ) (d : AntennaElement) (z : ℤ) → i < 15 → i < length es → i < length rest
@@ -63,7 +56,7 @@ both-more es rest l i d z h p q =
     ap (λ (k : List ℤ). set (set k (2 + i * 2) (e .snr)) (31 + i) n) (before t m 31 (1 + i * 2) (e .«spin_rpm») (omega arith))
     ∙ ap (λ (k : List ℤ). set k (31 + i) n) (before t (set m (1 + i * 2) (e .«spin_rpm»)) 31 (2 + i * 2) (e .snr) (omega arith))
     ∙ ap (λ (k : List ℤ). set (sets k 31 t) (31 + i) n) (one-more es l i d p)
-    ∙ behind rest (sets l 1 (elementsWhole (take (i + 1) es))) 31 i z q
+    ∙ step rest (sets l 1 (elementsWhole (take (i + 1) es))) 31 i z q
 
 -- the peaks
 peaks-append : (es fs : List AntennaElement) → peaks (es ++ fs) ≡ peaks es ++ peaks fs

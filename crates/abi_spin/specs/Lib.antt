@@ -1,2 +1,3 @@
--- The numbers of EF, E9 and D9 as C takes them.
+-- EF's numbers as C takes them.
+-- Its contracts cite no other definition of this crate.
 pub mod Numbers

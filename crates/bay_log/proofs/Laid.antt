@@ -1,5 +1,5 @@
 -- Fields written one behind the other are their bytes in a row.
--- Assumes nothing.
+-- `laid` is the writing, and `laid-is` says what stands in the buffer then.
 use Prim.Native.Nat.{ℕ, zero, suc, _+_, _≤_}
 use mathlib.Core.Path.{_≡_, refl, sym, _∙_, ap}
 use mathlib.Core.List.{List, [], _∷_, _++_, flatten}

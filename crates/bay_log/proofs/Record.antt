@@ -1,5 +1,5 @@
--- The record is its nine fields, each written behind the one before; and it has 32 bytes.
--- Assumes nothing.
+-- The record is its nine fields, each written behind the one before.
+-- It has 32 bytes, fills the front of a buffer, and leaves the rest as it was.
 use Prim.Native.Nat.{ℕ, _+_, _≤_}
 use mathlib.Core.Path.{_≡_, refl, sym, _∙_, ap}
 use mathlib.Core.List.{List, [], _∷_, _++_, flatten}

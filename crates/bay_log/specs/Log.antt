@@ -11,7 +11,7 @@ use lib.Signed.{quotZ}
 use Rattle.error.specs.Refusal.{Told, yes, no}
 use Rattle.integer_write.specs.Writing.{bytesOf, intBytes}
 use Rattle.numbers.specs.declared.Message.the-variants.{FlightResult}
-use Rattle.numbers.specs.Numbers.{wholeOf}
+use Rattle.numbers.specs.Numbers.{shapeOf, wholeOf}
 
 -- a shown figure: thousandths divided by 100, toward zero
 unfoldable pub shownOf : ℤ → ℤ
@@ -21,7 +21,7 @@ shownOf z = quotZ z (pos 100)
 unfoldable pub logFields : ℕ → List ℕ → List (List ℕ)
 logFields event p =
     bytesOf 4 event
-    ∷ (0xD4 ∷ [])
+    ∷ (shapeOf FlightResult .kind ∷ [])
     ∷ intBytes 3 (wholeOf FlightResult p 0)
     ∷ intBytes 4 (shownOf (wholeOf FlightResult p 5))
     ∷ intBytes 4 (shownOf (wholeOf FlightResult p 6))
@@ -34,6 +34,6 @@ logFields event p =
 -- the reply, and the buffer then: the record at its front, every other byte kept
 unfoldable pub logRule : ℕ → List ℕ → List ℕ → Told Unit × List ℕ
 logRule event p buf =
-    cond (ltb (length p) 157) (no 7 (0xD4 ∷ 157 ∷ length p ∷ []), buf)
+    cond (ltb (length p) (shapeOf FlightResult .least)) (no 7 (shapeOf FlightResult .kind ∷ shapeOf FlightResult .least ∷ length p ∷ []), buf)
     (cond (ltb (length buf) 32) (no 8 (32 ∷ length buf ∷ []), buf)
     (yes tt, sets buf 0 (flatten (logFields event p))))

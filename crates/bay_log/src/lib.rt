@@ -11,18 +11,15 @@ use integer::int24_at;
 use integer_write::write_int24;
 use integer_write::write_int32;
 use integer_write::write_uint32;
+use numbers::D4;
 
 // Places in the buffer are the record's, places in the payload D4's.
 pub fn write_record(buf: &mut [u8], event: u32, payload: &[u8]) -> ResultUnit
     ensures { λ r. ⌜ (toldUnit r, now (buf .exit)) ≡ logRule event (now (payload .entry)) (now (buf .entry)) ⌝ }
 {
     let got = payload.len();
-    if got < 157 {
-        return ResultUnit::Err(WireError::PayloadTooShort {
-            kind: 0xD4,
-            need: 157,
-            got,
-        });
+    if got < D4.least {
+        return ResultUnit::Err(WireError::payload_too_short(D4.kind, D4.least, got));
     }
     let room = buf.len();
     if room < 32 {
@@ -32,7 +29,7 @@ pub fn write_record(buf: &mut [u8], event: u32, payload: &[u8]) -> ResultUnit
         });
     }
     write_uint32(buf, 0, event);
-    buf[4] = 0xD4;
+    buf[4] = D4.kind;
     write_int24(buf, 5, int24_at(payload, 1)); // total
     write_shown(buf, 8, payload, 16); // launch speed
     write_shown(buf, 12, payload, 19); // azimuth

@@ -1,5 +1,5 @@
 -- Bytes read past a string's end, and a block's stores one by one.
--- Assumes nothing.
+-- `block` reads by the first, `put_block` stores by the second.
 use mathlib.Core.Path.{_≡_, refl}
 use mathlib.Core.List.{List, [], _∷_, _++_}
 use Prim.Native.Nat.{ℕ, zero, suc, _+_, _<_}

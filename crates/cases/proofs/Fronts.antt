@@ -1,5 +1,5 @@
 -- A number that is at most a list's length is a number of its elements.
--- Assumes nothing.
+-- So what `within` answers can be lent from.
 use Prim.Native.Nat.{ℕ, min, _≤_}
 use mathlib.Core.Path.{_≡_, sym, _∙_}
 use mathlib.Core.List.{List}

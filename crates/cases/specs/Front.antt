@@ -1,4 +1,5 @@
 -- A number of a list's elements from its front: what `&buf[..n]` asks of n.
+-- It is at most the length, and as many are there.
 use Prim.Native.Nat.{ℕ, _≤_}
 use mathlib.Core.Path.{_≡_}
 use mathlib.Core.List.{List}

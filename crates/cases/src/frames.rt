@@ -11,7 +11,7 @@ pub(crate) fn parse(a: usize, wire: &[u8]) {
     let payload = &mut room[..n];
     let mut header = [0u64; 4];
     let mut values = [0u64; 3];
-    let k = abi_frames::mvd_parse(wire, payload, &mut header, &mut values);
+    let k = abi_frame::mvd_parse(wire, payload, &mut header, &mut values);
     say::told(k, &values);
     if k == 0 {
         let words = &header;
@@ -26,7 +26,7 @@ pub(crate) fn encode(head: &[u8], b: u64, payload: &[u8]) {
     let wire = &mut room[..n];
     let mut length = 0usize;
     let mut values = [0u64; 3];
-    let k = abi_frames::mvd_encode(
+    let k = abi_frame::mvd_encode(
         integer::byte_at(head, 6),
         integer::byte_at(head, 7),
         integer::byte_at(head, 8),
@@ -115,7 +115,7 @@ fn feed(state: Splitter, stream: &[u8], end: usize, hold: &mut [u8], shown: bool
     let mut fed = [0u64; 5];
     let mut values = [0u64; 3];
     let chunk = cut(stream, state.at, end);
-    let told = abi_frames::mvd_feed(
+    let told = abi_splitter::mvd_feed(
         &mut count,
         &mut skipping,
         hold,

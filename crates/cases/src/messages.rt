@@ -51,7 +51,7 @@ pub(crate) fn tracking_status(data: &[u8]) {
     let mut counts = [0u64; 16];
     let mut whole = [0i32; 4];
     let mut values = [0u64; 3];
-    let k = abi_spin::mvd_tracking_status(data, &mut counts, &mut whole, &mut values);
+    let k = abi_tracking::mvd_tracking_status(data, &mut counts, &mut whole, &mut values);
     say::told(k, &values);
     if k == 0 {
         let ns = &counts;
@@ -70,7 +70,7 @@ pub(crate) fn speed_profile(a: usize, payload: &[u8]) {
     let mut samples = 0usize;
     let mut interval = 0.0;
     let mut values = [0u64; 3];
-    let k = abi_spin::mvd_speed_profile(
+    let k = abi_speed_profile::mvd_speed_profile(
         payload,
         speeds,
         &mut whole,
@@ -100,7 +100,7 @@ pub(crate) fn prc_data(data: &[u8]) {
     let mut sequence = 0i16;
     let mut points = 0usize;
     let mut values = [0u64; 3];
-    let k = abi_shot::mvd_prc_data(data, &mut sequence, &mut points, &mut values);
+    let k = abi_prc::mvd_prc_data(data, &mut sequence, &mut points, &mut values);
     say::told(k, &values);
     if k == 0 {
         say::signed(abi::wide(sequence));
@@ -113,7 +113,7 @@ pub(crate) fn prc_point(index: usize, data: &[u8]) {
     let mut whole = [0i32; 8];
     let mut figures = [0.0; 16];
     let mut values = [0u64; 3];
-    let k = abi_shot::mvd_prc_point(data, index, &mut whole, &mut figures, &mut values);
+    let k = abi_prc::mvd_prc_point(data, index, &mut whole, &mut figures, &mut values);
     let ns = &whole;
     let xs = &figures;
     say::record(k, &values, ns, xs);
@@ -121,7 +121,7 @@ pub(crate) fn prc_point(index: usize, data: &[u8]) {
 
 pub(crate) fn club_prc(data: &[u8]) {
     io::print_decimal(STDOUT_FILENO, 0);
-    say::whole(abi_shot::mvd_club_prc(data) as u64);
+    say::whole(abi_club_prc::mvd_club_prc(data) as u64);
     say::end();
 }
 
@@ -129,7 +129,7 @@ pub(crate) fn club_prc_point(index: usize, data: &[u8]) {
     let mut whole = [0i32; 9];
     let mut figures = [0.0; 20];
     let mut values = [0u64; 3];
-    let k = abi_shot::mvd_club_prc_point(data, index, &mut whole, &mut figures, &mut values);
+    let k = abi_club_prc::mvd_club_prc_point(data, index, &mut whole, &mut figures, &mut values);
     let ns = &whole;
     let xs = &figures;
     say::record(k, &values, ns, xs);
@@ -138,13 +138,13 @@ pub(crate) fn club_prc_point(index: usize, data: &[u8]) {
 // The text, and whether each of the three words stands in it.
 pub(crate) fn shot_text(payload: &[u8]) {
     let mut room = lent();
-    let n = abi_shot::mvd_shot_text(payload, &mut room);
+    let n = abi_shot_text::mvd_shot_text(payload, &mut room);
     let k = within(n, &room);
     let text = &room[..k];
     io::print_decimal(STDOUT_FILENO, 0);
-    say::whole(abi_shot::mvd_is_processed(text) as u64);
-    say::whole(abi_shot::mvd_is_idle(text) as u64);
-    say::whole(abi_shot::mvd_is_trigger(text) as u64);
+    say::whole(abi_shot_text::mvd_is_processed(text) as u64);
+    say::whole(abi_shot_text::mvd_is_idle(text) as u64);
+    say::whole(abi_shot_text::mvd_is_trigger(text) as u64);
     say::bytes(text);
 }
 
@@ -153,9 +153,9 @@ pub(crate) fn has_failed(op: u8, data: &[u8]) {
     let mut failed = 0u8;
     let mut values = [0u64; 3];
     let k = if op == 0x3C {
-        abi_numbers::mvd_is_model_failure(data, &mut failed, &mut values)
+        abi_failure::mvd_is_model_failure(data, &mut failed, &mut values)
     } else {
-        abi_numbers::mvd_is_no_read(data, &mut failed, &mut values)
+        abi_failure::mvd_is_no_read(data, &mut failed, &mut values)
     };
     say::count(k, &values, failed as u64);
 }
@@ -187,6 +187,6 @@ pub(crate) fn bay_log(head: &[u8], b: u64, data: &[u8]) {
     let buf = &mut room[..n];
     let mut values = [0u64; 3];
     let event = integer::uint32_at(head, 5);
-    let k = abi_numbers::mvd_bay_log(event, data, buf, &mut values);
+    let k = abi_bay_log::mvd_bay_log(event, data, buf, &mut values);
     say::lent(k, &values, buf);
 }

@@ -18,7 +18,7 @@ pub record Ends (s : List ℕ) (at : ℕ) : Type 0 where
   pub sum : Proper (drop at s)
   pub two : kept (drop at s) ≡ 2
 
--- DEST, andThen SRC: of what precedes the checksum, which starts at a place, with the payload's length
+-- DEST, then SRC: of what precedes the checksum, which starts at a place, with the payload's length
 unfoldable pub frontRule : ℕ → ℕ → List (ℕ × ℕ) → Told Head
 frontRule len at us =
     andThen (addressRule (byteAt us 0))

@@ -85,7 +85,7 @@ fn cut(s: &[u8]) -> usize
 }
 
 // Where the checksum starts.
-fn cs_at(s: &[u8]) -> usize
+fn checksum_at(s: &[u8]) -> usize
     requires { ⌜ (Proper (now s)) × (5 ≤ kept (now s)) ⌝ }
     ensures { λ r. ⌜ Ends (now (s .entry)) r ⌝ }
 {
@@ -135,13 +135,14 @@ fn check_sum(s: &[u8], n: usize) -> ResultHead
     requires { ⌜ (Proper (now s)) × (n ≡ kept (now s)) × (5 ≤ n) ⌝ }
     ensures { λ r. ⌜ toldHead r ≡ andThen (unstuff 0 (now (s .entry))) (λ us. onYes (headAt us) (sumRule (now (s .entry)) us)) ⌝ }
 {
-    let at = cs_at(s);
+    let at = checksum_at(s);
     let expected = received(s, at);
-    let computed = checksum(&s[..at]);
+    let body = &s[..at];
+    let computed = checksum(body);
     if expected != computed {
         return ResultHead::Err(WireError::ChecksumMismatch { expected, computed });
     }
-    check_head(&s[..at], n - 5)
+    check_head(body, n - 5)
 }
 
 fn check_interior(s: &[u8], whole: usize) -> ResultHead

@@ -1,5 +1,5 @@
-// Field codecs for the wire protocol, under the names of codec.rs.
-// The integer fields are proved in `integer`, `integer_read` and `integer_write`, FLOAT40 in `float40` and `float40_write`; nothing is added here.
+// The names of codec.rs, each from the crate that proves it.
+// Integer fields are in `integer`, `integer_read` and `integer_write`, FLOAT40 in `float40` and `float40_write`; nothing is added here.
 pub use float40::float40_at;
 pub use float40::float40_of;
 pub use float40::read_float40;

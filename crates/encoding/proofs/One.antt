@@ -1,18 +1,10 @@
--- Two replies that `encode`'s contract allows for one input are equal, and so are the buffers that they leave.
--- Assumes nothing.
-use mathlib.Core.Path.{_≡_, sym, _∙_}
-use mathlib.Core.List.{List}
-use Prim.Native.Nat.{ℕ}
-use lib.ListN.{length}
-use Rattle.error.specs.Refusal.{onYes, filled}
-use Rattle.error.specs.Result.{toldUsize}
-use Rattle.error.specs.declared.ResultUsize.{ResultUsize}
+-- Two replies that `encode`'s contract allows for one input are equal, and so are the buffers that they leave,
+-- by the contract as the check reads it off src/ (`Post`): what a reply tells decides it, the buffer is a plain equation.
+use mathlib.Core.Path.{_≡_}
+use Rattle.general.proofs.One.{plain}
 use Rattle.error.proofs.Decides.{one-usize}
-use Rattle.encoding.specs.Wire.{Fields}
-use Rattle.encoding.specs.Encode.{encodeRule}
+use Rattle.encoding.proofs.encode.Reads as encode
 
-pub one-encoded : (f : Fields) (old : List ℕ) {r s : ResultUsize} {b c : List ℕ}
-    → toldUsize r ≡ onYes length (encodeRule f (length old)) → b ≡ filled (encodeRule f (length old)) old
-    → toldUsize s ≡ onYes length (encodeRule f (length old)) → c ≡ filled (encodeRule f (length old)) old
-    → (r ≡ s) × (b ≡ c)
-one-encoded f old p q p′ q′ = (one-usize p p′, q ∙ sym q′)
+pub one-encode : (κs a r s x y : _) → encode.Post κs a r x → encode.Post κs a s y
+    → (r ≡ s) × (x .1 .1 .1 .1 .0 .now ≡ y .1 .1 .1 .1 .0 .now)
+one-encode κs a r s x y p q = (one-usize (p .0) (q .0), plain (p .1) (q .1))

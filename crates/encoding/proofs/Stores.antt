@@ -27,12 +27,6 @@ block-stored s a buf last at n is same fits e =
 
 -- a stuffed byte: its first store, and its last, which may be the same one
 module _ (b code : ℕ) (is : code ≡ escapeOf b) where
-  pub byte-width : (more : ℕ) → more ≡ cond (eqb code 0) 0 1 → 1 + more ≡ length (stuffByte b)
-  byte-width more e =
-      by-eq code 0
-      (λ h. rw (plain b (sym is ∙ h)) (omega (arith, simp (eq-eqb code 0 h) at e)))
-      (λ h. rw (escaped b (λ q. h (is ∙ q))) (omega (arith, simp (ne-eqb code 0 h) at e)))
-
   pub byte-stored : (more first last : ℕ) → more ≡ cond (eqb code 0) 0 1 → first ≡ cond (eqb code 0) b 0xFD → last ≡ cond (eqb code 0) b code
       → (old : List ℕ) (at : ℕ) → set (set old at first) (at + more) last ≡ sets old at (stuffByte b)
   byte-stored more first last m f l old at =

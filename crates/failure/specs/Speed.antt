@@ -1,4 +1,4 @@
--- Rule 1 for a failed shot, the source's: the speed is not a number, or at most zero.
+-- A failed shot, as in the Rust: its speed is not a number, or at most zero.
 -- It speaks of any float, also of one that no payload gives.
 use mathlib.Core.Bool.{Bool, _||_}
 use lib.Ieee.{Float, isNan, le}

@@ -1,4 +1,4 @@
-// Rule 1 for a failed shot: a speed that is not a number, or at most zero.
+// A failed shot has no speed: it is not a number, or at most zero.
 // D4 asks it of launch speed, E8 of ball velocity.
 ghost use mathlib.Core.Path.{_≡_};
 ghost use Rattle.failure.specs.Speed.{noSpeed};

@@ -1,5 +1,5 @@
 -- A field asked for by number is the decoded record's field of that name, for every number of the three messages.
--- Proved once over the message: what differs is how its record lists its numbers again. Assumes nothing.
+-- Proved once over the message: what differs is how its record lists its numbers again.
 use mathlib.Core.Path.{_≡_, refl, sym, _∙_, ap}
 use mathlib.Core.List.{List}
 use Prim.Native.Nat.{ℕ, _<_, _≤_}
@@ -46,17 +46,20 @@ module _ (m : Message) (p : List ℕ) (l : shapeOf m .least ≤ length p) (n : �
       ∙ row-at (countOf m) (numbered m (numbersOf m p)) (whole (pos 0)) n h))
 
 module _ (p : List ℕ) (n : ℕ) where
-  pub flight-result : 157 ≤ length p → n < 52 → (r : ResultFlightResult) → toldFlightResult r ≡ decodeRule message.FlightResult flightResult p
+  pub flight-result : shapeOf message.FlightResult .least ≤ length p → n < countOf message.FlightResult → (r : ResultFlightResult)
+      → toldFlightResult r ≡ decodeRule message.FlightResult flightResult p
       → fieldRule message.FlightResult p n ≡ yes (getD (flightResultNumbers (r .«record»)) n (whole (pos 0)))
   unfolding ruleOf
   flight-result l h r = by-number message.FlightResult p l n h flightResult flightResultNumbers (λ N. refl) (toldFlightResult r)
 
-  pub flight-result-v1 : 94 ≤ length p → n < 31 → (r : ResultFlightResultV1) → toldFlightResultV1 r ≡ decodeRule message.FlightResultV1 flightResultV1 p
+  pub flight-result-v1 : shapeOf message.FlightResultV1 .least ≤ length p → n < countOf message.FlightResultV1 → (r : ResultFlightResultV1)
+      → toldFlightResultV1 r ≡ decodeRule message.FlightResultV1 flightResultV1 p
       → fieldRule message.FlightResultV1 p n ≡ yes (getD (flightResultV1Numbers (r .«record»)) n (whole (pos 0)))
   unfolding ruleOf
   flight-result-v1 l h r = by-number message.FlightResultV1 p l n h flightResultV1 flightResultV1Numbers (λ N. refl) (toldFlightResultV1 r)
 
-  pub club-result : 167 ≤ length p → n < 55 → (r : ResultClubResult) → toldClubResult r ≡ decodeRule message.ClubResult clubResult p
+  pub club-result : shapeOf message.ClubResult .least ≤ length p → n < countOf message.ClubResult → (r : ResultClubResult)
+      → toldClubResult r ≡ decodeRule message.ClubResult clubResult p
       → fieldRule message.ClubResult p n ≡ yes (getD (clubResultNumbers (r .«record»)) n (whole (pos 0)))
   unfolding ruleOf
   club-result l h r = by-number message.ClubResult p l n h clubResult clubResultNumbers (λ N. refl) (toldClubResult r)

@@ -1,5 +1,5 @@
 -- A list that is filled from the front, one value a turn, is a row in the end.
--- Assumes nothing.
+-- `Filled` is how far it has come; `filled-is` says what the list is then.
 use Prim.Native.Nat.{ℕ, zero, suc, _+_, _<_, _≤_}
 use mathlib.Core.Path.{_≡_, refl, sym, _∙_, ap}
 use mathlib.Core.Bool.{cond}

@@ -1,4 +1,4 @@
--- Rule 1 for a failed shot, the source's: D4's launch speed, or E8's ball velocity, is no speed.
+-- A failed shot, as in the Rust: D4's launch speed, or E8's ball velocity, is no speed.
 -- It speaks of any record, also of one that no payload gives.
 use mathlib.Core.Bool.{Bool}
 use Rattle.failure.specs.Speed.{noSpeed}

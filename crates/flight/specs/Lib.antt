@@ -1,5 +1,6 @@
 -- What the contracts of the decoders cite.
 pub mod Decoding
+pub mod ByList
 pub mod FlightResultFields
 pub mod FlightResultV1Fields
 pub mod ClubResultFields

@@ -3,7 +3,9 @@
 ghost use mathlib.Core.Path.{_≡_};
 ghost use Prim.Native.Nat.{_≤_};
 ghost use lib.ListN.{length};
-ghost use Rattle.flight.specs.Decoding.{decodeRule, numbersIn, zeros};
+ghost use Rattle.numbers.specs.Numbers.{shapeOf};
+ghost use Rattle.flight.specs.Decoding.{decodeRule, zeros};
+ghost use Rattle.flight.specs.ByList.{numbersIn};
 ghost use Rattle.flight.specs.ClubResultFields.{clubResult, toldClubResult};
 use crate::figures::figure_at;
 use crate::figures::figures36;
@@ -12,54 +14,53 @@ use error::WireError;
 use integer::byte_at;
 use integer::int24_at;
 use numbers::DIVISORS;
+use numbers::ED;
 use numbers::Message;
 use numbers::scale;
 
-// Club head measurements. Appears 2x per shot (duplicate). Type 0xED.
+// The club head at impact; the device sends it twice a shot. Turning left is positive.
 pub struct ClubResult {
-    // Number of club PRC tracking points
+    // How many points the club was tracked at; EE has them
     pub num_club_prc_points: u8,
-    // Flags (raw)
+    // As sent
     pub flags: i32,
-    // Pre-impact club speed (m/s)
+    // m/s before impact
     pub pre_club_speed: f64,
-    // Post-impact club speed (m/s)
+    // m/s after it
     pub post_club_speed: f64,
-    // Strike direction / path angle (deg, positive = left)
+    // degrees of the club's path to the left
     pub strike_direction: f64,
-    // Attack angle (deg)
+    // degrees
     pub attack_angle: f64,
-    // Face angle (deg, positive = left)
+    // degrees to the left
     pub face_angle: f64,
-    // Dynamic loft (deg)
+    // degrees
     pub dynamic_loft: f64,
-    // Smash factor (ratio)
+    // A ratio
     pub smash_factor: f64,
-    // Dispersion correction
+    // Its unit is not told
     pub dispersion_correction: f64,
-    // Swing plane horizontal direction (deg, positive = left)
+    // degrees to the left
     pub swing_plane_horizontal: f64,
-    // Swing plane vertical (deg)
+    // degrees
     pub swing_plane_vertical: f64,
-    // Club azimuth (deg)
+    // degrees
     pub club_azimuth: f64,
-    // Club elevation (deg)
+    // degrees
     pub club_elevation: f64,
-    // Club offset (m)
+    // m
     pub club_offset: f64,
-    // Club height (m)
+    // m
     pub club_height: f64,
-    // Polynomial scale factor
+    // Divides the 36 coefficients that follow; 0 is taken for 1
     pub poly_scale: i32,
-    // 12 polynomials of 3 coefficients each, in a row
-    // Order: Pre_v, Pst_v, Pre_x, Pst_x, Pre_y, Pst_y, Pre_z, Pst_z,
-    //        Pre_YX, Pst_YX, Pre_ZX, Pst_ZX
+    // Twelve polynomials of three coefficients in a row: v, x, y, z, YX and ZX, each before and then after impact
     pub poly_coeffs: [f64; 36],
-    // Pre-impact time (ms, /100)
+    // ms
     pub pre_impact_time: f64,
-    // Post-impact time (ms, /100)
+    // ms
     pub post_impact_time: f64,
-    // Club-to-ball time (ms, /100)
+    // ms from club to ball
     pub club_to_ball_time: f64,
 }
 
@@ -74,13 +75,9 @@ impl ClubResult {
         ensures { λ r. ⌜ toldClubResult r ≡ decodeRule Message.ClubResult clubResult (now (payload .entry)) ⌝ }
     {
         let got = payload.len();
-        if got < 167 {
+        if got < ED.least {
             return ResultClubResult {
-                result: ResultUnit::Err(WireError::PayloadTooShort {
-                    kind: 0xED,
-                    need: 167,
-                    got,
-                }),
+                result: ResultUnit::Err(WireError::payload_too_short(ED.kind, ED.least, got)),
                 record: ClubResult::zero(),
             };
         }
@@ -94,7 +91,7 @@ impl ClubResult {
 
     // The record of a payload that is long enough, by these divisors and this scale: place and entry stand as numbers.
     fn of(p: &[u8], by: &[u32; 138], s: f64) -> ClubResult
-        requires { ⌜ 167 ≤ length (now p) ⌝ }
+        requires { ⌜ shapeOf Message.ClubResult .least ≤ length (now p) ⌝ }
         ensures { λ r. ⌜ r ≡ clubResult (numbersIn Message.ClubResult (now (p .entry)) (now (by .entry)) s) ⌝ }
     {
         ClubResult {

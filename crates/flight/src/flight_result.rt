@@ -3,7 +3,9 @@
 ghost use mathlib.Core.Path.{_≡_};
 ghost use Prim.Native.Nat.{_≤_};
 ghost use lib.ListN.{length};
-ghost use Rattle.flight.specs.Decoding.{decodeRule, numbersIn, zeros};
+ghost use Rattle.numbers.specs.Numbers.{shapeOf};
+ghost use Rattle.flight.specs.Decoding.{decodeRule, zeros};
+ghost use Rattle.flight.specs.ByList.{numbersIn};
 ghost use Rattle.flight.specs.FlightResultFields.{flightResult, toldFlightResult};
 ghost use Rattle.flight.specs.Failure.{modelFailure};
 use crate::figures::figure_at;
@@ -13,77 +15,70 @@ use error::ResultUnit;
 use error::WireError;
 use failure::no_speed;
 use integer::int24_at;
+use numbers::D4;
 use numbers::DIVISORS;
 use numbers::Message;
 use numbers::scale;
 
-// Primary ball flight result. 1 per shot. Type 0xD4.
-//
-// Contains 36 linear scalar fields plus a polynomial scale factor and 15
-// polynomial trajectory coefficients (5th-order, x/y/z).
+// The ball's whole flight, one message a shot. Sideways and turning left is positive; a position is forward, up, left.
 pub struct FlightResult {
-    // Shot counter
+    // Counts the shots
     pub total: i32,
-    // Tracked time (s)
+    // s under track
     pub track_time: f64,
-    // Start position [forward, vertical, lateral] (m, lateral positive =
-    // left)
+    // m
     pub start_position: [f64; 3],
-    // Launch speed (m/s)
+    // m/s
     pub launch_speed: f64,
-    // Launch azimuth (deg, positive = left, negative = right)
+    // degrees to the left
     pub launch_azimuth: f64,
-    // Launch elevation / VLA (deg)
+    // degrees upward
     pub launch_elevation: f64,
-    // Carry distance (m)
+    // m
     pub carry_distance: f64,
-    // Flight time (s)
+    // s
     pub flight_time: f64,
-    // Maximum height (m)
+    // m
     pub max_height: f64,
-    // Landing position [forward, vertical, lateral] (m, lateral positive =
-    // left)
+    // m
     pub landing_position: [f64; 3],
-    // Backspin (RPM)
+    // turns a minute
     pub backspin_rpm: i32,
-    // Sidespin (RPM, positive = curves left, negative = curves right)
+    // turns a minute; the ball curves left where it is positive
     pub sidespin_rpm: i32,
-    // Riflespin (RPM)
+    // turns a minute
     pub riflespin_rpm: i32,
-    // Landing spin [0, 1, 2] (RPM)
+    // turns a minute, three of them
     pub landing_spin_rpm: [i32; 3],
-    // Landing velocity [forward, vertical, lateral] (m/s, lateral positive
-    // = left)
+    // m/s
     pub landing_velocity: [f64; 3],
-    // Total distance (m) — not populated by DSP; contains diagnostic values.
+    // m by name; the device puts diagnostics there
     pub total_distance: f64,
-    // Roll distance (m) — not populated by DSP; always zero on wire.
+    // m; the device sends 0
     pub roll_distance: f64,
-    // Final position [forward, vertical, lateral] (m) — not populated by DSP; always (0,0,0).
+    // m; the device sends zeros
     pub final_position: [f64; 3],
-    // Club head speed (m/s)
+    // m/s
     pub clubhead_speed: f64,
-    // Club strike direction / path (deg, positive = left)
+    // degrees of the club's path to the left
     pub club_strike_direction: f64,
-    // Club attack angle (deg)
+    // degrees
     pub club_attack_angle: f64,
-    // Club head speed post-impact (m/s)
+    // m/s after impact
     pub clubhead_speed_post: f64,
-    // Club swing plane tilt (deg)
+    // degrees
     pub club_swing_plane_tilt: f64,
-    // Club swing plane rotation (deg, positive = left)
+    // degrees to the left
     pub club_swing_plane_rotation: f64,
-    // Club effective loft (deg)
+    // degrees
     pub club_effective_loft: f64,
-    // Club face angle (deg, positive = left)
+    // degrees to the left
     pub club_face_angle: f64,
-    // Polynomial scale factor (raw integer, divide poly coefficients by this)
+    // Divides the 15 coefficients that follow; 0 is taken for 1
     pub poly_scale: i32,
-    // Trajectory polynomial X coefficients [0..4]
+    // The path's polynomials, coefficients 0 to 4 each
     pub poly_x: [f64; 5],
-    // Trajectory polynomial Y coefficients [0..4]
     pub poly_y: [f64; 5],
-    // Trajectory polynomial Z coefficients [0..4]
     pub poly_z: [f64; 5],
 }
 
@@ -94,9 +89,7 @@ pub struct ResultFlightResult {
 }
 
 impl FlightResult {
-    // Whether this is the device's "distance model failed" result: launch
-    // speed 0 (or not a number). In full-flight outdoor mode a shot into a
-    // net or screen produces it; the 0xE8 sent before it is still valid.
+    // No flight was found, as where a net stops the ball: no launch speed. The E8 sent before it stays good.
     pub fn is_model_failure(self) -> bool
         ensures { λ r. ⌜ r ≡ modelFailure self ⌝ }
     {
@@ -107,13 +100,9 @@ impl FlightResult {
         ensures { λ r. ⌜ toldFlightResult r ≡ decodeRule Message.FlightResult flightResult (now (payload .entry)) ⌝ }
     {
         let got = payload.len();
-        if got < 157 {
+        if got < D4.least {
             return ResultFlightResult {
-                result: ResultUnit::Err(WireError::PayloadTooShort {
-                    kind: 0xD4,
-                    need: 157,
-                    got,
-                }),
+                result: ResultUnit::Err(WireError::payload_too_short(D4.kind, D4.least, got)),
                 record: FlightResult::zero(),
             };
         }
@@ -127,7 +116,7 @@ impl FlightResult {
 
     // The record of a payload that is long enough, by these divisors and this scale: place and entry stand as numbers.
     fn of(p: &[u8], by: &[u32; 138], s: f64) -> FlightResult
-        requires { ⌜ 157 ≤ length (now p) ⌝ }
+        requires { ⌜ shapeOf Message.FlightResult .least ≤ length (now p) ⌝ }
         ensures { λ r. ⌜ r ≡ flightResult (numbersIn Message.FlightResult (now (p .entry)) (now (by .entry)) s) ⌝ }
     {
         FlightResult {

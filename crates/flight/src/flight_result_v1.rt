@@ -3,7 +3,9 @@
 ghost use mathlib.Core.Path.{_≡_};
 ghost use Prim.Native.Nat.{_≤_};
 ghost use lib.ListN.{length};
-ghost use Rattle.flight.specs.Decoding.{decodeRule, numbersIn, zeros};
+ghost use Rattle.numbers.specs.Numbers.{shapeOf};
+ghost use Rattle.flight.specs.Decoding.{decodeRule, zeros};
+ghost use Rattle.flight.specs.ByList.{numbersIn};
 ghost use Rattle.flight.specs.FlightResultV1Fields.{flightResultV1, toldFlightResultV1};
 ghost use Rattle.flight.specs.Failure.{noRead};
 use crate::figures::figure_at;
@@ -13,48 +15,47 @@ use error::WireError;
 use failure::no_speed;
 use integer::int24_at;
 use numbers::DIVISORS;
+use numbers::E8;
 use numbers::Message;
 use numbers::scale;
 
-// Early/partial flight result. 1 per shot, sent before D4. Type 0xE8.
+// What is known of the flight early, one message a shot, ahead of D4. Sideways and turning left is positive.
 pub struct FlightResultV1 {
-    // Shot counter
+    // Counts the shots
     pub total: i32,
-    // Club velocity (m/s)
+    // m/s
     pub club_velocity: f64,
-    // Ball velocity (m/s)
+    // m/s
     pub ball_velocity: f64,
-    // Flight time (s)
+    // s
     pub flight_time: f64,
-    // Distance (m)
+    // m
     pub distance: f64,
-    // Height (m)
+    // m
     pub height: f64,
-    // Lateral landing distance (m, positive = left)
+    // m to the left, where it lands
     pub lateral: f64,
-    // Elevation / VLA (deg)
+    // degrees upward
     pub elevation: f64,
-    // Azimuth / HLA (deg, positive = left)
+    // degrees to the left
     pub azimuth: f64,
-    // Tracked time (s)
+    // s under track
     pub tracked_time: f64,
-    // Drag coefficient (/1000000)
+    // The only number in millionths
     pub drag: f64,
-    // Backspin (RPM)
+    // turns a minute
     pub backspin_rpm: i32,
-    // Sidespin (RPM)
+    // turns a minute
     pub sidespin_rpm: i32,
-    // Acceleration
+    // Its unit is not told
     pub acceleration: f64,
-    // Club strike direction (deg)
+    // degrees
     pub club_strike_direction: f64,
-    // Polynomial scale factor
+    // Divides the 15 coefficients that follow; below 1 it is taken for 1
     pub poly_scale: i32,
-    // Trajectory polynomial X coefficients [0..4]
+    // The path's polynomials, coefficients 0 to 4 each
     pub poly_x: [f64; 5],
-    // Trajectory polynomial Y coefficients [0..4]
     pub poly_y: [f64; 5],
-    // Trajectory polynomial Z coefficients [0..4]
     pub poly_z: [f64; 5],
 }
 
@@ -65,9 +66,7 @@ pub struct ResultFlightResultV1 {
 }
 
 impl FlightResultV1 {
-    // Whether this is a "no read": ball velocity 0 (or not a number). The
-    // device sends it when it triggered but tracked no ball; its other
-    // fields are zero too.
+    // The device woke and tracked no ball: no ball velocity.
     pub fn is_no_read(self) -> bool
         ensures { λ r. ⌜ r ≡ noRead self ⌝ }
     {
@@ -78,13 +77,9 @@ impl FlightResultV1 {
         ensures { λ r. ⌜ toldFlightResultV1 r ≡ decodeRule Message.FlightResultV1 flightResultV1 (now (payload .entry)) ⌝ }
     {
         let got = payload.len();
-        if got < 94 {
+        if got < E8.least {
             return ResultFlightResultV1 {
-                result: ResultUnit::Err(WireError::PayloadTooShort {
-                    kind: 0xE8,
-                    need: 94,
-                    got,
-                }),
+                result: ResultUnit::Err(WireError::payload_too_short(E8.kind, E8.least, got)),
                 record: FlightResultV1::zero(),
             };
         }
@@ -98,7 +93,7 @@ impl FlightResultV1 {
 
     // The record of a payload that is long enough, by these divisors and this scale: place and entry stand as numbers.
     fn of(p: &[u8], by: &[u32; 138], s: f64) -> FlightResultV1
-        requires { ⌜ 94 ≤ length (now p) ⌝ }
+        requires { ⌜ shapeOf Message.FlightResultV1 .least ≤ length (now p) ⌝ }
         ensures { λ r. ⌜ r ≡ flightResultV1 (numbersIn Message.FlightResultV1 (now (p .entry)) (now (by .entry)) s) ⌝ }
     {
         FlightResultV1 {

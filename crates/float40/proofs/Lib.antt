@@ -1,7 +1,8 @@
 -- The laws of FLOAT40 read.
+-- `Value` is the one to read: what every exponent and mantissa stand for.
 pub mod Signed
 pub mod Pow2
 pub mod Over
 pub mod Value
 pub mod Part
-pub mod Unique
+pub mod One

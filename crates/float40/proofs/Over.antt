@@ -1,5 +1,5 @@
 -- A fraction of 2 ^ (emax + 1) or more rounds to an infinity, in each format: 2 ^ 1024 in binary64.
--- Beside lib.Ieee.Exact's `round-exact`, for values past the format's range. Assumes nothing.
+-- Beside lib.Ieee.Exact's `round-exact`, for values past the format's range.
 use Prim.Native.Nat.{ℕ, suc, _+_, _-_, _*_, _/_, _%_, _^_, _<_, _≤_, compare}
 use mathlib.Core.Path.{_≡_, sym, ap, _∙_}
 use mathlib.Core.Bool.{Bool}

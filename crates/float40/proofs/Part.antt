@@ -1,5 +1,5 @@
 -- A FLOAT40 at a place is the one at the front of the part that starts there and has its five bytes.
--- Assumes nothing.
+-- So a read of a part is a read of the whole, and past the end it is +0.0.
 use Prim.Native.Nat.{ℕ, zero, suc, _+_, _*_, _≤_}
 use mathlib.Core.Path.{_≡_, refl, ap, _∙_}
 use mathlib.Core.List.{List}

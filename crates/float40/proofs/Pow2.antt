@@ -1,5 +1,5 @@
 -- The float 2 ^ k: its three cases, and the bits that `two_to` makes of it.
--- For each j below 2,098 they are those that `toBits` writes of 2 ^ (j - 1074). Assumes nothing.
+-- For each j below 2,098 they are those that `toBits` writes of 2 ^ (j - 1074).
 use Prim.Native.Nat.{ℕ, suc, _+_, _-_, _*_, _/_, _%_, _^_, _<_, _≤_}
 use mathlib.Core.Path.{_≡_, sym, ap, subst, _∙_}
 use mathlib.Core.Bool.{Bool, true, false, not, false≢true}

@@ -1,5 +1,5 @@
 -- Signed numbers: differences of naturals, a fixed number less, a count from the least, and a test against 0.
--- Assumes nothing.
+-- For exponents: e - 23 is a difference of two naturals, and `exp2` counts from its least.
 use Prim.Native.Nat.{ℕ, suc, _+_, _-_, _<_, _≤_}
 use mathlib.Core.Path.{_≡_, refl, sym, ap, subst, _∙_}
 use mathlib.Core.Bool.{Bool, false, cond}

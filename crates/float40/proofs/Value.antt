@@ -1,10 +1,11 @@
 -- What an exponent and a mantissa read as, for every e and every m of an i32 and more: with k = e - 23, the sign is m's and
--- the size |m| * 2 ^ k exactly, but 0 where k is below -1074, and infinite where k is above 1023 or the size 2 ^ 1024 or more. Assumes nothing.
+-- the size |m| * 2 ^ k exactly, but 0 where k is below -1074, and infinite where k is above 1023 or the size 2 ^ 1024 or more.
 use Prim.Native.Nat.{ℕ, zero, suc, _*_, _^_, _<_, _≤_}
 use mathlib.Core.Path.{_≡_, refl, sym, ap, subst, _∙_}
 use mathlib.Core.Bool.{Bool, true, false}
 use native.Mathlib.Omega.{arith}
-use native.Mathlib.Nat.{one-mul, mul-one, mul-zero, zero-mul, mul-assoc, mul-right-comm, mul-pos, le-of-lt, lt-of-mul-lt-mul-right, mul-lt-mul-of-pos-right, lt-irrefl}
+use native.Mathlib.Nat.{one-mul, mul-one, mul-zero, zero-mul, mul-assoc, mul-right-comm, mul-pos, le-of-lt, lt-of-mul-lt-mul-right}
+use native.Mathlib.Nat.{mul-lt-mul-of-pos-right, lt-irrefl}
 use lib.Dec.{lit≤}
 use lib.Pow.{pow-pos}
 use lib.IntN.{ℤ, pos, negsuc, natAbs, _-ℤ_}
@@ -47,7 +48,8 @@ times-inf : (f : Format) (x : Float) (s : Bool) (n : ℕ) → 0 < n → HasValue
 unfolding mul
 times-inf f nan s n h v = absurd v
 times-inf f (inf t) s n h v = absurd v
-times-inf f (fin t zero e) s n h v = absurd (lt-irrefl 0 (subst (λ (y : ℕ). 0 < y) (sym (v .1) ∙ ap (λ (y : ℕ). y * 1) (zero-mul (up e)) ∙ zero-mul 1) (mul-pos h (down-pos e))))
+times-inf f (fin t zero e) s n h v = absurd (lt-irrefl 0
+    (subst (λ (y : ℕ). 0 < y) (sym (v .1) ∙ ap (λ (y : ℕ). y * 1) (zero-mul (up e)) ∙ zero-mul 1) (mul-pos h (down-pos e))))
 times-inf f (fin t (suc a) e) s n h v = rw (ne-eqb (suc a) 0 (λ q. let z : ⊥ = omega (arith, q) in z)) (ap inf (plain t ∙ v .0))
 
 -- with zero

@@ -16,7 +16,7 @@ pub fn read_float40(data: &[u8], offset: usize) -> ResultF64
     let need = integer::need_at(offset, 5);
     let got = data.len();
     if got < need {
-        return ResultF64::Err(WireError::PayloadTooShort { kind: 7, need, got });
+        return ResultF64::Err(WireError::payload_too_short(7, need, got));
     }
     let end = offset + 5;
     ResultF64::Ok(front(&data[offset..end]))

@@ -1,5 +1,5 @@
 -- The 64 bits taken apart: e and m of both zeros and of all other patterns, and how large they are.
--- Assumes nothing.
+-- They fit an i16 and 24 bits, whatever the 64 bits are.
 use Prim.Native.Nat.{ℕ, zero, suc, _+_, _*_, _%_, _^_, _<_, _≤_}
 use mathlib.Core.Path.{_≡_, refl}
 use mathlib.Core.Bool.{Bool, true, false}

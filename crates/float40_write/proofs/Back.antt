@@ -1,5 +1,5 @@
 -- What is written reads back, over the 64 bits b: a normal number as exactly m * 2 ^ (e - 23), a subnormal one with the leading one added,
--- an infinity or a NaN as an infinity, both zeros as +0.0; `told-back` says it through a buffer. Assumes nothing.
+-- an infinity or a NaN as an infinity, both zeros as +0.0; `told-back` says it through a buffer, `FloatBack` of an f64.
 use Prim.Native.Nat.{ℕ, zero, suc, _+_, _-_, _*_, _%_, _^_, _<_, _≤_}
 use mathlib.Core.Path.{_≡_, refl, sym, ap, subst, _∙_}
 use mathlib.Core.Bool.{Bool, true, false}
@@ -75,7 +75,7 @@ module _ (b : ℕ) (some : b % 2 ^ 63 ≡ 0 → ⊥) where
   kept : (natAbs (man40 b) * 2 ^ 30 ≤ 2 ^ 52 + fractionOf b) × (2 ^ 52 + fractionOf b < (natAbs (man40 b) + 1) * 2 ^ 30)
   kept = rw size-is (keeps b)
 
-  power : exp40 b -ℤ pos 23 ≡ minus (fieldOf b) 1045
+  pub power : exp40 b -ℤ pos 23 ≡ minus (fieldOf b) 1045
   power = ap (λ (z : ℤ). z -ℤ pos 23) exponent ∙ less (fieldOf b) 1022 22
 
   least : ltZ (exp40 b -ℤ pos 23) (negsuc 1073) ≡ false

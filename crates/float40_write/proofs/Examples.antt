@@ -1,5 +1,5 @@
 -- Document 01's worked FLOAT40 examples, (h) to (l), each under its letter, computed from the rules that the contracts cite.
--- Assumes nothing.
+-- Crate `examples` has them in its list.
 use Prim.Native.Nat.{ℕ}
 use mathlib.Core.Path.{_≡_, refl}
 use mathlib.Core.Bool.{true, false}
@@ -37,5 +37,6 @@ pub record Float40Examples : Type 0 where
   pub l : reads (0xFB ∷ 0xE4 ∷ 0x40 ∷ 0x00 ∷ 0x00 ∷ []) zeroF
 
 pub examples-float40 : Float40Examples
-unfolding reading float40At intAt beAt signed value40 pow2 mul ofInt round units odd size span climb trailingZeros writing written bytes40 intBytes bytesOf unsigned exp40 man40 sizeOf toBits
+unfolding reading float40At intAt beAt signed value40 pow2 mul ofInt round units odd size span
+    climb trailingZeros writing written bytes40 intBytes bytesOf unsigned exp40 man40 sizeOf toBits
 examples-float40 = record { h = refl; i = (refl, refl); j = refl; k = refl; l = refl }

@@ -1,5 +1,5 @@
--- The five bytes of a FLOAT40: they are five, they are its two fields written one behind the other, and laid over a part they are written.
--- Assumes nothing.
+-- The five bytes of a FLOAT40 are its two fields written one behind the other.
+-- Laid over a part of five and put back, they are written at the part's place.
 use Prim.Native.Nat.{ℕ, _+_, _-_, _≤_}
 use mathlib.Core.Path.{_≡_, sym, ap, _∙_}
 use mathlib.Core.List.{List, [], _++_, append-assoc, append-nil}

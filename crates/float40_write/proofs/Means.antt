@@ -1,12 +1,14 @@
 -- What the 64 bits stand for in binary64, by the parts that the writer takes: sign, exponent field and fraction.
--- So s = 2 ^ 52 + fraction is a normal number's significand, and a subnormal one has no leading one. Assumes nothing.
+-- So s = 2 ^ 52 + fraction is a normal number's significand, and a subnormal one has no leading one.
 use Prim.Native.Nat.{ℕ, zero, suc, _+_, _-_, _*_, _^_, _<_}
-use mathlib.Core.Path.{_≡_, ap, subst}
-use mathlib.Core.Bool.{Bool}
+use mathlib.Core.Path.{_≡_, sym, ap, subst, _∙_}
+use mathlib.Core.Bool.{Bool, true, false, cond}
 use native.Mathlib.Omega.{arith}
 use native.Mathlib.Nat.{mul-one}
+use lib.Dec.{eqb}
+use lib.IntN.{ℤ}
 use lib.Pow.{field}
-use lib.Ieee.{binary64, odd, ofFields, ofBits}
+use lib.Ieee.{Float, nan, inf, fin, binary64, odd, ofFields, ofBits}
 use lib.Ieee.Exact.{HasValue, odd-sign}
 use borrow.Author.Tests.{ne-eqb}
 use Rattle.float40_write.specs.Writing.{signOf, fieldOf, fractionOf}
@@ -32,3 +34,19 @@ subnormal-means b h =
     rw (apart b, h)
     (subst (λ (n : ℕ). HasValue (odd 53 (signOf b) (fractionOf b) 0 1074) (signOf b) n (2 ^ 1074)) (mul-one (fractionOf b))
     (odd-sign 53 (signOf b) (fractionOf b) 0 1074))
+
+abbrev Infinite : Float → Type 0
+Infinite nan = Unit
+Infinite (inf s) = Unit
+Infinite (fin s m e) = ⊥
+
+-- an exponent field of ones is no finite number's
+not-finite : (c s t : Bool) (m : ℕ) (e : ℤ) → cond c (inf s) nan ≡ fin t m e → ⊥
+not-finite true s t m e p = subst Infinite p tt
+not-finite false s t m e p = subst Infinite p tt
+
+pub infinite-means : (b : ℕ) → fieldOf b ≡ 2047 → (s : Bool) (m : ℕ) (e : ℤ) → ofBits binary64 b ≡ fin s m e → ⊥
+unfolding ofFields
+infinite-means b h s m e p =
+    not-finite (eqb (fractionOf b) 0) (signOf b) s m e
+    (sym (apart b ∙ ap (λ (x : ℕ). ofFields binary64 (signOf b) x (fractionOf b)) h) ∙ p)

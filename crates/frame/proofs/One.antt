@@ -1,27 +1,22 @@
--- Two replies that `RawFrame::parse`'s contract allows for one input are equal, and so are the buffers that they leave.
--- Assumes nothing. (`RawFrame::encode` has the contract of `encoding::encode`, and its `one-encoded`.)
-use mathlib.Core.Path.{_≡_, refl, sym, ap, _∙_}
-use mathlib.Core.List.{List}
-use Prim.Native.Nat.{ℕ}
-use lib.ListN.{length}
-use Rattle.error.specs.Refusal.{Told, onYes, filled}
-use Rattle.error.proofs.Decides.{turned, there}
-use Rattle.general.proofs.One.{one-reply}
-use Rattle.frame.specs.declared.RawFrame.{RawFrame}
+-- Two replies that a contract of `frame` allows for one input are equal, and so are the buffers that they leave,
+-- by the contract as the check reads it off src/ (`Post`): what a reply tells decides it, the buffer is a plain equation.
+use mathlib.Core.Path.{_≡_, refl, ap}
+use Rattle.error.proofs.Decides.{turned, there, one-usize}
+use Rattle.general.proofs.One.{plain, one-reply}
 use Rattle.frame.specs.declared.ResultRawFrame.{ResultRawFrame}
 use Rattle.frame.specs.declared.ResultRawFrame.the-variants.{Ok, Err}
-use Rattle.frame.specs.Rule.{parseRule, headerOf, toldRawFrame}
+use Rattle.frame.specs.Rule.{toldRawFrame}
+use Rattle.frame.proofs.RawFrame.encode.Reads as encode
+use Rattle.frame.proofs.RawFrame.parse.Reads as parse
 
 back-frame : (r : ResultRawFrame) → turned Ok Err (toldRawFrame r) ≡ r
 unfolding turned
 back-frame (Ok f) = refl
 back-frame (Err e) = ap Err (there e)
 
-pub one-frame : {r s : ResultRawFrame} {t : Told RawFrame} → toldRawFrame r ≡ t → toldRawFrame s ≡ t → r ≡ s
-one-frame = one-reply toldRawFrame (turned Ok Err) back-frame
+pub one-encode : (κs a r s x y : _) → encode.Post κs a r x → encode.Post κs a s y
+    → (r ≡ s) × (x .1 .1 .1 .1 .0 .now ≡ y .1 .1 .1 .1 .0 .now)
+one-encode κs a r s x y p q = (one-usize (p .0) (q .0), plain (p .1) (q .1))
 
-pub one-parsed : (w old : List ℕ) {r s : ResultRawFrame} {b c : List ℕ}
-    → toldRawFrame r ≡ onYes headerOf (parseRule w (length old)) → b ≡ filled (onYes (λ f. f .payload) (parseRule w (length old))) old
-    → toldRawFrame s ≡ onYes headerOf (parseRule w (length old)) → c ≡ filled (onYes (λ f. f .payload) (parseRule w (length old))) old
-    → (r ≡ s) × (b ≡ c)
-one-parsed w old p q p′ q′ = (one-frame p p′, q ∙ sym q′)
+pub one-parse : (κs a r s x y : _) → parse.Post κs a r x → parse.Post κs a s y → (r ≡ s) × (x .1 .0 .now ≡ y .1 .0 .now)
+one-parse κs a r s x y p q = (one-reply toldRawFrame (turned Ok Err) back-frame (p .0) (q .0), plain (p .1) (q .1))

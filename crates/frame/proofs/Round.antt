@@ -77,6 +77,6 @@ module _ (f : Fields) where
   pub wire-parsed : (room : ℕ) → length (f .payload) ≤ room → parseRule (wireOf f) room ≡ yes f
   wire-parsed room h = parse-fits (wireOf f) room f wire-checked h
 
-  -- encode, andThen parse
+  -- encode, then parse
   pub round-trip : {w : List ℕ} (room-out room-in : ℕ) → encodeRule f room-out ≡ yes w → length (f .payload) ≤ room-in → parseRule w room-in ≡ yes f
   round-trip room-out room-in e h = rw (written-is f room-out e) (wire-parsed room-in h)

@@ -1,8 +1,9 @@
 // Runs document 01's 'Run' cases on the splitter through the program's own lines: its example, a frame as long as the hold
-// buffer and one longer, hold buffers of 1 and 0 bytes, each at once and then cut in two.
+// buffer and one longer, hold buffers of 1 and 0 bytes, each at once and then cut in two; then a capture of several pieces.
 use session::Session;
 
-// The example and an F0 behind it, which stays open: held where H is 1 or more, else the mark is set.
+// The example and an F0 behind it, which stays open: held where H is 1 or more, else the mark is set. Then standard input,
+// as `frames` reads it.
 fn main() {
     let bytes = [
         0x00u8,
@@ -28,6 +29,7 @@ fn main() {
     both(&mut one, stream);
     let mut none = [0u8; 0];
     both(&mut none, stream);
+    capture::print_all();
 }
 
 // A stream at once, then cut after its third byte.

@@ -1,12 +1,19 @@
--- Two runs of stores, one behind the other, are one run.
--- Assumes nothing.
-use Prim.Native.Nat.{ℕ, suc, _+_}
-use mathlib.Core.Path.{_≡_}
+-- Runs of stores: two of them, one behind the other, are one run, and a store below a run may go first.
+-- Over the type of what is stored.
+use Prim.Native.Nat.{ℕ, suc, _+_, _<_}
+use mathlib.Core.Path.{_≡_, refl, ap, _∙_}
 use mathlib.Core.List.{List, [], _∷_, _++_}
 use native.Mathlib.Nat.{add-zero, add-suc, suc-add}
+use native.Mathlib.Omega.{arith}
 use lib.ListN.{length, set}
-use lib.Seq.{sets}
+use lib.Seq.{sets, set-comm}
 
 pub sets-append : {A : Type 0} (a b l : List A) (i : ℕ) → sets (sets l i a) (i + length a) b ≡ sets l i (a ++ b)
 sets-append [] b l i = rw add-zero
 sets-append (x ∷ a) b l i = rw (add-suc, ← suc-add) (sets-append a b (set l i x) (suc i))
+
+pub set-before : {A : Type 0} (l : List A) (i : ℕ) (a : List A) (j : ℕ) (x : A) → j < i → set (sets l i a) j x ≡ sets (set l j x) i a
+set-before l i [] j x h = refl
+set-before {A} l i (y ∷ a) j x h =
+    set-before (set l i y) (suc i) a j x (omega arith)
+    ∙ ap (λ (k : List A). sets k (suc i) a) (set-comm l i j y x (λ e. let q : ⊥ = omega arith in q))

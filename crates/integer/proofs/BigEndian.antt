@@ -1,5 +1,5 @@
--- The big-endian number of bytes at a place: one byte more, its bound, and bytes past the end. Over the width.
--- Assumes nothing.
+-- The big-endian number of bytes at a place: one byte more, its bound, and bytes past the end.
+-- Each law once over the width.
 use Prim.Native.Nat.{ℕ, zero, suc, _+_, _*_, _^_, _<_, _≤_}
 use mathlib.Core.Path.{_≡_, ap, subst, _∙_}
 use mathlib.Core.List.{List}

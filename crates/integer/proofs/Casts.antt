@@ -1,5 +1,5 @@
--- A cast to a signed type that is as wide or wider fits, and keeps the number. Over the widths.
--- Assumes nothing.
+-- A cast to a signed type that is as wide or wider fits, and keeps the number.
+-- Once over the two widths, for every signed cast of the field crates.
 use mathlib.Core.Path.{_≡_, sym, subst, _∙_}
 use lib.Dec.{T, leb}
 use lib.IntN.{ℤ}

@@ -1,5 +1,5 @@
 -- Two's complement over w bits: the number that they stand for, by halves, and that it fits.
--- `moved` is how `int_at` makes the number of fewer bits. Assumes nothing.
+-- `moved` is how `int_at` makes the number of fewer bits.
 use Prim.Native.Nat.{ℕ, zero, suc, _+_, _-_, _*_, _/_, _^_, _<_, _≤_}
 use mathlib.Core.Path.{_≡_, refl, sym, ap, subst, _∙_}
 use mathlib.Core.Bool.{Bool, cond}

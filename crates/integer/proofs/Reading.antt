@@ -1,5 +1,5 @@
--- Reading at a place, by cases: it fits, or it is refused. Over kind, width and value.
--- Assumes nothing.
+-- Reading at a place, by cases: it fits, or it is refused.
+-- Once over kind, width and value, for a test that passed or failed and for a length.
 use Prim.Native.Nat.{ℕ, _+_, _<_, _≤_}
 use mathlib.Core.Path.{_≡_, ap}
 use mathlib.Core.Bool.{Bool, true, false, cond}

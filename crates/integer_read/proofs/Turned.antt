@@ -1,5 +1,5 @@
 -- What one reading of a field tells, with its value made another, is another reading of that field.
--- Over kind, width and value. Assumes nothing.
+-- Once over kind, width and value: `checked` is for a plain field, `scaled` for one that is divided.
 use Prim.Native.Nat.{ℕ, _+_}
 use mathlib.Core.Path.{_≡_, refl, sym, ap, _∙_}
 use mathlib.Core.Bool.{Bool, true, false, cond}
@@ -20,7 +20,8 @@ unfolding reading
 turned told kind k value other s at f e p q = ap (λ r. onYes f (told r)) (sym q) ∙ ap (onYes f) p ∙ each (leb (at + k) (length s))
   where
     each : (b : Bool)
-        → onYes f (cond b (yes (value s at)) (no 7 (kind ∷ needAt k at ∷ length s ∷ []))) ≡ cond b (yes (other s at)) (no 7 (kind ∷ needAt k at ∷ length s ∷ []))
+        → onYes f (cond b (yes (value s at)) (no 7 (kind ∷ needAt k at ∷ length s ∷ []))) ≡ cond b (yes (other s at))
+        (no 7 (kind ∷ needAt k at ∷ length s ∷ []))
     each true = ap yes e
     each false = refl
 

@@ -113,5 +113,5 @@ fn check_len(data: &[u8], offset: usize, width: usize, kind: u8) -> ResultUnit
     }
     let need = need_at(offset, width);
     let got = data.len();
-    ResultUnit::Err(WireError::PayloadTooShort { kind, need, got })
+    ResultUnit::Err(WireError::payload_too_short(kind, need, got))
 }

@@ -1,5 +1,5 @@
 -- What was written reads back, every other field keeps its value, and what is read, written again, changes nothing.
--- Each once over the width, at any place. Assumes nothing.
+-- Each once over the width, at any place.
 use Prim.Native.Nat.{ℕ, zero, suc, _+_, _-_, _*_, _/_, _%_, _^_, _<_, _≤_}
 use mathlib.Core.Path.{_≡_, refl, sym, ap, _∙_}
 use mathlib.Core.Bool.{Bool, true, false, cond}

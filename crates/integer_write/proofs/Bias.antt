@@ -1,5 +1,5 @@
--- A signed number made a natural one by adding H, over H and the widths: how the bits of one are taken.
--- Assumes nothing.
+-- A signed number made a natural one by adding H: how its bits are taken.
+-- Once over H and the widths, as a number and as the machine has it.
 use Prim.Native.Nat.{ℕ, suc, _+_, _-_, _%_, _^_, _<_}
 use mathlib.Core.Path.{_≡_, refl, sym, ap, subst, _∙_}
 use mathlib.Core.Bool.{Bool, cond}

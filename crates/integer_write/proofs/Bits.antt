@@ -1,5 +1,5 @@
 -- The w bits of a number in two's complement: their bound, fewer of them, and that number and bits undo each other.
--- Assumes nothing.
+-- Once over the width; reading and writing undo each other by the last two.
 use Prim.Native.Nat.{ℕ, suc, _+_, _-_, _*_, _/_, _%_, _^_, _<_, _≤_}
 use mathlib.Core.Path.{_≡_, sym, ap, _∙_}
 use native.Mathlib.Omega.{arith}

@@ -1,5 +1,5 @@
--- A number's low bytes: how many there are, and that the bits above them do not count. Over the width.
--- Assumes nothing.
+-- A number's low bytes: how many there are, and that the bits above them do not count.
+-- Each law once over the width.
 use Prim.Native.Nat.{ℕ, zero, suc, _+_, _-_, _*_, _/_, _%_, _^_, _≤_}
 use mathlib.Core.Path.{_≡_, refl, sym, ap, _∙_}
 use mathlib.Core.List.{_∷_}

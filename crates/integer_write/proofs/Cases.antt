@@ -1,5 +1,5 @@
--- Writing at a place, by cases: the bytes fit, or they are refused. Over the bytes.
--- Assumes nothing.
+-- Writing at a place, by cases: the bytes fit, or they are refused.
+-- Once over the bytes, for a test that passed or failed and for a length.
 use Prim.Native.Nat.{ℕ, _+_, _<_, _≤_}
 use mathlib.Core.Path.{_≡_, ap}
 use mathlib.Core.Bool.{Bool, true, false, cond}

@@ -1,20 +1,14 @@
--- A run of stores that grows downwards, the last byte of k first: what `put_be` has stored so far. Over the width.
--- Assumes nothing.
+-- A run of stores that grows downwards, the last byte of k first: what `put_be` has stored so far.
+-- Once over the width: no byte yet, and one byte more.
 use Prim.Native.Nat.{ℕ, suc, _+_, _-_, _/_, _%_, _^_, _<_, _≤_}
-use mathlib.Core.Path.{_≡_, refl, sym, ap, _∙_}
-use mathlib.Core.List.{List, [], _∷_}
+use mathlib.Core.Path.{_≡_, sym}
+use mathlib.Core.List.{List}
 use native.Mathlib.Omega.{arith}
 use native.Mathlib.Nat.{div-div-eq-div-mul, div-one, pow-suc}
 use lib.ListN.{set}
-use lib.Seq.{sets, set-comm}
+use lib.Seq.{sets}
+use Rattle.general.proofs.Stores.{set-before}
 use Rattle.integer_write.specs.Writing.{bytesOf}
-
--- a store below a run of stores goes first
-set-sets : (vs s : List ℕ) (i p b : ℕ) → p < i → set (sets s i vs) p b ≡ sets (set s p b) i vs
-set-sets [] s i p b h = refl
-set-sets (v ∷ vs) s i p b h =
-    set-sets vs (set s i v) (suc i) p b (omega arith)
-    ∙ ap (λ (l : List ℕ). sets l (suc i) vs) (set-comm s i p v b (λ e. let q : ⊥ = omega arith in q))
 
 -- no byte yet
 pub start-rest : (n k : ℕ) → n ≡ n / 256 ^ (k - k)
@@ -36,4 +30,4 @@ module _ (s buf : List ℕ) (at n k i rest : ℕ) (h : 0 < i) (g : i ≤ k) (r :
   unfolding bytesOf
   more-bytes b =
       let e : at + i ≡ suc (at + (i - 1)) = omega arith in
-      rw (more-left, b, e, r) (set-sets (bytesOf (k - i) n) s (suc (at + (i - 1))) (at + (i - 1)) (n / 256 ^ (k - i) % 256) (omega arith))
+      rw (more-left, b, e, r) (set-before s (suc (at + (i - 1))) (bytesOf (k - i) n) (at + (i - 1)) (n / 256 ^ (k - i) % 256) (omega arith))

@@ -1,4 +1,5 @@
--- A signed result as a record or a cast holds it: its bits, read back. Assumes nothing.
+-- A signed result as a record or a cast holds it: its bits, read back.
+-- They stand for the same number, since it fits its width.
 use mathlib.Core.Path.{_≡_, _∙_}
 use Prim.Native.Nat.{_<_, _^_}
 use lib.IntN.{ℤ}

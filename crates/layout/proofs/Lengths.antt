@@ -1,5 +1,5 @@
 -- A message on either side of its least length, whatever its table is: the answer, and the record beside it.
--- The two decide what is decoded. Assumes nothing.
+-- The two decide what is decoded.
 use Prim.Native.Nat.{ℕ, _≤_, _<_}
 use mathlib.Core.Path.{_≡_, sym, _∙_}
 use mathlib.Core.List.{List}

@@ -1,4 +1,5 @@
--- A list of n elements is the row of them. Assumes nothing.
+-- A list of n elements is the row of them.
+-- So a list of fixed length is said element by element.
 use Prim.Native.Nat.{ℕ, zero, suc}
 use mathlib.Core.Path.{_≡_, refl, ap}
 use mathlib.Core.List.{List, [], _∷_}

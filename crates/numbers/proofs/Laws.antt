@@ -1,8 +1,8 @@
--- What a scale becomes, and what an entry of the list stands for.
--- Assumes nothing.
+-- What a scale becomes, where a message's numbers end, and how a number is shown:
+-- whole where its rule's code is 0, as a figure otherwise.
 use mathlib.Core.Path.{_≡_, refl}
 use mathlib.Core.Bool.{true, false}
-use Prim.Native.Nat.{ℕ, _<_, _≤_}
+use Prim.Native.Nat.{ℕ, _+_, _*_, _<_, _≤_}
 use native.Mathlib.Omega.{arith}
 use lib.IntN.{ℤ, pos, negsuc}
 use lib.Signed.{ltZ}
@@ -10,10 +10,9 @@ use lib.Ieee.{Float}
 use mir.Syntax.{w32}
 use mir.Val.{SFits, ofZ}
 use borrow.Author.Tests.{eq-eqb, ne-eqb, ltb-true, ltb-false}
-use Rattle.integer.specs.Fields.{scaledBy}
 use Rattle.numbers.specs.declared.Message.{Message}
 use Rattle.numbers.specs.declared.Message.the-variants.{FlightResult, FlightResultV1, ClubResult}
-use Rattle.numbers.specs.Numbers.{shapeOf, countOf, atLeastOne, Rule, count, hundredths, thousandths, millionths, scaled, divisorOf, entryOf, ruleCode}
+use Rattle.numbers.specs.Numbers.{shapeOf, countOf, atLeastOne, Rule, count, hundredths, thousandths, millionths, scaled, ruleCode}
 use Rattle.general.specs.Number.{nonzero}
 use Rattle.numbers.specs.Asked.{shownBy, whole, figure}
 
@@ -37,6 +36,12 @@ above-same (negsuc n) e = let z : _≡_ {A = ℕ} 0 1 = cc in absurd (omega arit
 
 -- ---- the shapes
 
+-- a message that is long enough has all its numbers, and nothing behind them is asked for
+pub full : (m : Message) → shapeOf m .least ≡ shapeOf m .base + 3 * countOf m
+full FlightResult = refl
+full FlightResultV1 = refl
+full ClubResult = refl
+
 pub scale-inside : (m : Message) → shapeOf m .scale < countOf m
 scale-inside FlightResult = omega arith
 scale-inside FlightResultV1 = omega arith
@@ -47,7 +52,7 @@ small FlightResult = omega arith
 small FlightResultV1 = omega arith
 small ClubResult = omega arith
 
--- ---- an entry of the list
+-- ---- the code of a rule
 
 pub counted : (r : Rule) (z : ℤ) (x : Float) → ruleCode r ≡ 0 → shownBy r z x ≡ whole z
 counted count z x e = refl
@@ -56,9 +61,9 @@ counted thousandths z x e = absurd (omega arith)
 counted millionths z x e = absurd (omega arith)
 counted scaled z x e = absurd (omega arith)
 
-pub divided : (r : Rule) (z : ℤ) (s : Float) → (ruleCode r ≡ 0 → ⊥) → shownBy r z (scaledBy (divisorOf r s) z) ≡ figure (scaledBy (entryOf (ruleCode r) s) z)
-divided count z s e = absurd (e refl)
-divided hundredths z s e = refl
-divided thousandths z s e = refl
-divided millionths z s e = refl
-divided scaled z s e = refl
+pub divided : (r : Rule) (z : ℤ) (x : Float) → (ruleCode r ≡ 0 → ⊥) → shownBy r z x ≡ figure x
+divided count z x e = absurd (e refl)
+divided hundredths z x e = refl
+divided thousandths z x e = refl
+divided millionths z x e = refl
+divided scaled z x e = refl

@@ -1,22 +1,19 @@
--- What each public contract allows for one question is one reply.
--- Assumes nothing.
-use mathlib.Core.Path.{_≡_, refl, sym, _∙_}
-use mathlib.Core.List.{List}
+-- Two replies that a contract of `numbers` allows for one input are equal, by the contract as the check reads it off src/ (`Post`).
+-- What a field tells decides it; a scale and a figure are plain equations.
+use mathlib.Core.Path.{_≡_, refl}
 use mathlib.Core.Bool.{cond}
-use Prim.Native.Nat.{ℕ}
 use lib.Dec.{eqb}
 use lib.ListN.{getD}
-use lib.IntN.{ℤ}
-use lib.Ieee.{Float}
+use Rattle.general.proofs.One.{plain, one-reply}
 use Rattle.error.specs.Refusal.{Told, yes, no}
-use Rattle.general.proofs.One.{one-reply}
-use Rattle.integer.specs.Fields.{scaledBy}
-use Rattle.numbers.specs.declared.Message.{Message}
 use Rattle.numbers.specs.declared.Field.{Field}
 use Rattle.numbers.specs.declared.Field.the-variants.{Count, Figure, PayloadTooShort, NoField}
-use Rattle.numbers.specs.Numbers.{scaleRule, float, entryOf}
-use Rattle.numbers.specs.Asked.{Number, whole, figure, toldField, fieldRule}
+use Rattle.numbers.specs.Asked.{Number, whole, figure, toldField}
+use Rattle.numbers.proofs.scale.Reads as scale
+use Rattle.numbers.proofs.figure.Reads as figure-reads
+use Rattle.numbers.proofs.field_at.Reads as field-at
 
+-- what is told, turned back into a field
 back : Told Number → Field
 back (yes (whole z)) = Count z
 back (yes (figure x)) = Figure x
@@ -29,11 +26,11 @@ there (Figure x) = refl
 there (PayloadTooShort kind need got) = refl
 there (NoField number) = refl
 
-pub one-field : (m : Message) (p : List ℕ) (n : ℕ) {r s : Field} → toldField r ≡ fieldRule m p n → toldField s ≡ fieldRule m p n → r ≡ s
-one-field m p n = one-reply toldField back there
+pub one-scale : (κs a r s x y : _) → scale.Post κs a r x → scale.Post κs a s y → r ≡ s
+one-scale κs a r s x y = plain
 
-pub one-scale : (m : Message) (z : ℤ) {r s : Float} → r ≡ float (scaleRule m z) → s ≡ float (scaleRule m z) → r ≡ s
-one-scale m z p q = p ∙ sym q
+pub one-figure : (κs a r s x y : _) → figure-reads.Post κs a r x → figure-reads.Post κs a s y → r ≡ s
+one-figure κs a r s x y = plain
 
-pub one-figure : (z : ℤ) (d : ℕ) (x : Float) {r s : Float} → r ≡ scaledBy (entryOf d x) z → s ≡ scaledBy (entryOf d x) z → r ≡ s
-one-figure z d x p q = p ∙ sym q
+pub one-field-at : (κs a r s x y : _) → field-at.Post κs a r x → field-at.Post κs a s y → r ≡ s
+one-field-at κs a r s x y = one-reply toldField back there

@@ -1,10 +1,10 @@
 -- The four answers of a field asked for by number, from what the tests and the list's entry say.
--- Assumes nothing.
+-- The two refusals come first, in their order.
 use mathlib.Core.Path.{_≡_, sym, _∙_, ap}
 use mathlib.Core.List.{List, [], _∷_}
 use Prim.Native.Nat.{ℕ, _<_, _≤_}
 use lib.ListN.{length}
-use lib.IntN.{ℤ}
+use lib.Ieee.{Float}
 use borrow.Author.Tests.{lt-ltb, le-ltb}
 use Rattle.error.specs.Refusal.{Told, yes, no}
 use Rattle.integer.specs.Fields.{scaledBy}
@@ -13,6 +13,7 @@ use Rattle.numbers.specs.declared.Shape.{Shape}
 use Rattle.numbers.specs.Numbers.{shapeOf, ruleOf, entryOf, wholeOf, scaleOf, figureOf, ruleCode}
 use Rattle.numbers.specs.Asked.{whole, figure, fieldRule, numberAt}
 use Rattle.numbers.proofs.Laws.{counted, divided}
+use Rattle.numbers.proofs.Divisors.{kept}
 
 module _ (m : Message) (p : List ℕ) (n : ℕ) (s : Shape) (e : s ≡ shapeOf m) where
   pub told-short : length p < s .least → no 7 (s .kind ∷ s .least ∷ length p ∷ []) ≡ fieldRule m p n
@@ -35,6 +36,8 @@ module _ (m : Message) (p : List ℕ) (n : ℕ) (s : Shape) (e : s ≡ shapeOf m
         told-count t = ap yes (sym (counted (ruleOf m n) (wholeOf m p n) (figureOf m p n) (sym q ∙ t))) ∙ told-some
 
         pub told-figure : (d ≡ 0 → ⊥) → yes (figure (scaledBy (entryOf d (scaleOf m p)) (wholeOf m p n))) ≡ fieldRule m p n
-        unfolding numberAt figureOf
+        unfolding numberAt
         told-figure t =
-            rw q (ap yes (sym (divided (ruleOf m n) (wholeOf m p n) (scaleOf m p) (λ w. t (q ∙ w)))) ∙ told-some)
+            ap (λ (x : Float). yes (figure x)) (kept m p n q t)
+            ∙ ap yes (sym (divided (ruleOf m n) (wholeOf m p n) (figureOf m p n) (λ w. t (q ∙ w))))
+            ∙ told-some

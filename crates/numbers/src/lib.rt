@@ -46,44 +46,6 @@ pub enum Field {
     NoField { number: usize },
 }
 
-// The shape of a message.
-fn shape_of(message: Message) -> Shape
-    ensures { λ r. ⌜ r ≡ shapeOf message ⌝ }
-{
-    match message {
-        Message::FlightResult => {
-            Shape {
-                kind: 0xD4,
-                least: 157,
-                base: 1,
-                count: 52,
-                scale: 36,
-                first: D4,
-            }
-        }
-        Message::FlightResultV1 => {
-            Shape {
-                kind: 0xE8,
-                least: 94,
-                base: 1,
-                count: 31,
-                scale: 15,
-                first: E8,
-            }
-        }
-        Message::ClubResult => {
-            Shape {
-                kind: 0xED,
-                least: 167,
-                base: 2,
-                count: 55,
-                scale: 15,
-                first: ED,
-            }
-        }
-    }
-}
-
 // A polynomial scale factor as it divides: 0 becomes 1, in E8 anything below 1.
 pub fn scale(message: Message, poly_scale: i32) -> f64
     ensures { λ r. ⌜ r ≡ float (scaleRule message «poly_scale») ⌝ }
@@ -118,26 +80,6 @@ pub fn figure(number: i32, divisor: u32, scale: f64) -> f64
     }
 }
 
-// The list's entry for a number of a message.
-fn divisor(message: Message, number: usize) -> u32
-    requires { ⌜ number < countOf message ⌝ }
-    ensures { λ r. ⌜ r ≡ ruleCode (ruleOf message number) ⌝ }
-{
-    let shape = shape_of(message);
-    let first = shape.first;
-    DIVISORS[first + number]
-}
-
-// A number of a message as it stands.
-fn whole(message: Message, payload: &[u8], number: usize) -> i32
-    requires { ⌜ number < countOf message ⌝ }
-    ensures { λ r. ⌜ r ≡ wholeOf message (now (payload .entry)) number ⌝ }
-{
-    let shape = shape_of(message);
-    let base = shape.base;
-    int24_at(payload, base + 3 * number)
-}
-
 // The field of a message by its number.
 pub fn field_at(message: Message, payload: &[u8], number: usize) -> Field
     ensures { λ r. ⌜ toldField r ≡ fieldRule message (now (payload .entry)) number ⌝ }
@@ -163,4 +105,35 @@ pub fn field_at(message: Message, payload: &[u8], number: usize) -> Field
     }
     let s = scale(message, whole(message, payload, shape.scale));
     Field::Figure(figure(z, d, s))
+}
+
+// The shape of a message.
+fn shape_of(message: Message) -> Shape
+    ensures { λ r. ⌜ r ≡ shapeOf message ⌝ }
+{
+    match message {
+        Message::FlightResult => D4,
+        Message::FlightResultV1 => E8,
+        Message::ClubResult => ED,
+    }
+}
+
+// The list's entry for a number of a message.
+fn divisor(message: Message, number: usize) -> u32
+    requires { ⌜ number < countOf message ⌝ }
+    ensures { λ r. ⌜ r ≡ ruleCode (ruleOf message number) ⌝ }
+{
+    let shape = shape_of(message);
+    let first = shape.first;
+    DIVISORS[first + number]
+}
+
+// A number of a message as it stands.
+fn whole(message: Message, payload: &[u8], number: usize) -> i32
+    requires { ⌜ number < countOf message ⌝ }
+    ensures { λ r. ⌜ r ≡ wholeOf message (now (payload .entry)) number ⌝ }
+{
+    let shape = shape_of(message);
+    let base = shape.base;
+    int24_at(payload, base + 3 * number)
 }

@@ -1,12 +1,33 @@
-// The divisors of D4, E8 and ED by number: 0 is a count, 1 the message's own scale.
-// The list keeps document 01's rule (proofs/Divisors).
+// The shapes of D4, E8 and ED, and their divisors by number: 0 is a count, 1 the message's own scale.
+// Every crate takes a message's type byte and least length from here; the list keeps document 01's rule (proofs/Divisors).
+use crate::Shape;
 
-// Where each message's divisors start in the list.
-pub const D4: usize = 0;
+pub const D4: Shape = Shape {
+    kind: 0xD4,
+    least: 157,
+    base: 1,
+    count: 52,
+    scale: 36,
+    first: 0,
+};
 
-pub const E8: usize = 52;
+pub const E8: Shape = Shape {
+    kind: 0xE8,
+    least: 94,
+    base: 1,
+    count: 31,
+    scale: 15,
+    first: 52,
+};
 
-pub const ED: usize = 83;
+pub const ED: Shape = Shape {
+    kind: 0xED,
+    least: 167,
+    base: 2,
+    count: 55,
+    scale: 15,
+    first: 83,
+};
 
 pub const DIVISORS: [u32; 138] = [
     // D4

@@ -1,4 +1,5 @@
--- Laws of the reader: walks by hand (`Walk`), the reader's struct (`Held`), a move (`Moving`, `Move`), its callers (`Loan`, `Calls`), places (`Next`), replies (`Unique`).
+-- Laws of the reader: walks by hand (`Walk`), the reader's struct (`Held`), a move (`Moving`, `Move`), its callers (`Loan`, `Calls`),
+-- places (`Next`), replies (`One`).
 pub mod Walk
 pub mod Held
 pub mod Moving
@@ -6,4 +7,4 @@ pub mod Move
 pub mod Loan
 pub mod Calls
 pub mod Next
-pub mod Unique
+pub mod One

@@ -5,8 +5,9 @@ use mathlib.Core.List.{List, [], _∷_}
 use Prim.Native.Nat.{ℕ}
 use lib.ListN.{replicate}
 use Rattle.search.specs.First.{indexOf}
-use Rattle.splitter.specs.Feed.{new, ends, goesOn, runs, feedRule}
-use Rattle.stream.specs.Stream.{More, Overlong, Frame, Call, call}
+use Rattle.splitter.specs.Feed.{new, ends, goesOn, runs, feedRule, more, overlong, frame}
+use Rattle.error.specs.Refusal.{yes}
+use Rattle.stream.specs.Stream.{Call, call}
 use Rattle.stream.proofs.Calls.{stands-fresh, stands-good}
 use Rattle.splitter.proofs.One.{eventOf}
 use Rattle.stream.proofs.Ends.{past, one-chunk, all-end}
@@ -26,11 +27,11 @@ closed = refl
 
 after-closed :
     over 16 ((0x00 ∷ 0xF1 ∷ 0xF0 ∷ 0x05 ∷ []) ∷ (0xF1 ∷ 0x07 ∷ 0xF0 ∷ 0x40 ∷ 0x10 ∷ []) ∷ (0x01 ∷ 0x00 ∷ 0x51 ∷ 0xF1 ∷ a) ∷ []) ≡
-    call (0x00 ∷ 0xF1 ∷ 0xF0 ∷ 0x05 ∷ []) More
-    ∷ call (0xF1 ∷ []) (Frame (0xF0 ∷ 0x05 ∷ 0xF1 ∷ []))
-    ∷ call (0x07 ∷ 0xF0 ∷ 0x40 ∷ 0x10 ∷ []) More
-    ∷ call (0x01 ∷ 0x00 ∷ 0x51 ∷ 0xF1 ∷ []) (Frame a)
-    ∷ call a (Frame a)
+    call (0x00 ∷ 0xF1 ∷ 0xF0 ∷ 0x05 ∷ []) (yes more)
+    ∷ call (0xF1 ∷ []) (yes (frame (0xF0 ∷ 0x05 ∷ 0xF1 ∷ [])))
+    ∷ call (0x07 ∷ 0xF0 ∷ 0x40 ∷ 0x10 ∷ []) (yes more)
+    ∷ call (0x01 ∷ 0x00 ∷ 0x51 ∷ 0xF1 ∷ []) (yes (frame a))
+    ∷ call a (yes (frame a))
     ∷ []
 unfolding indexOf ends goesOn runs feedRule eventOf past one-chunk all-end
 after-closed = refl
@@ -42,18 +43,18 @@ unclosed = refl
 
 after-unclosed :
     over 9 ((0x00 ∷ 0xF0 ∷ 0x05 ∷ 0xF0 ∷ 0x40 ∷ []) ∷ (0x10 ∷ 0x01 ∷ 0x00 ∷ 0x51 ∷ 0xF1 ∷ a) ∷ []) ≡
-    call (0x00 ∷ 0xF0 ∷ 0x05 ∷ 0xF0 ∷ 0x40 ∷ []) More
-    ∷ call (0x10 ∷ 0x01 ∷ 0x00 ∷ 0x51 ∷ 0xF1 ∷ []) (Frame (0xF0 ∷ 0x05 ∷ a))
-    ∷ call a (Frame a)
+    call (0x00 ∷ 0xF0 ∷ 0x05 ∷ 0xF0 ∷ 0x40 ∷ []) (yes more)
+    ∷ call (0x10 ∷ 0x01 ∷ 0x00 ∷ 0x51 ∷ 0xF1 ∷ []) (yes (frame (0xF0 ∷ 0x05 ∷ a)))
+    ∷ call a (yes (frame a))
     ∷ []
 unfolding indexOf ends goesOn runs feedRule eventOf past one-chunk all-end
 after-unclosed = refl
 
 after-unclosed-long :
     over 8 ((0x00 ∷ 0xF0 ∷ 0x05 ∷ 0xF0 ∷ 0x40 ∷ []) ∷ (0x10 ∷ 0x01 ∷ 0x00 ∷ 0x51 ∷ 0xF1 ∷ a) ∷ []) ≡
-    call (0x00 ∷ 0xF0 ∷ 0x05 ∷ 0xF0 ∷ 0x40 ∷ []) More
-    ∷ call (0x10 ∷ 0x01 ∷ 0x00 ∷ 0x51 ∷ 0xF1 ∷ []) Overlong
-    ∷ call a (Frame a)
+    call (0x00 ∷ 0xF0 ∷ 0x05 ∷ 0xF0 ∷ 0x40 ∷ []) (yes more)
+    ∷ call (0x10 ∷ 0x01 ∷ 0x00 ∷ 0x51 ∷ 0xF1 ∷ []) (yes overlong)
+    ∷ call a (yes (frame a))
     ∷ []
 unfolding indexOf ends goesOn runs feedRule eventOf past one-chunk all-end
 after-unclosed-long = refl
@@ -61,11 +62,11 @@ after-unclosed-long = refl
 -- ---- seven bytes in a hold buffer of seven, and of six
 
 exactly : over 7 ((0xF0 ∷ 0x40 ∷ 0x10 ∷ []) ∷ (0x01 ∷ 0x00 ∷ 0x51 ∷ 0xF1 ∷ []) ∷ []) ≡
-    call (0xF0 ∷ 0x40 ∷ 0x10 ∷ []) More ∷ call (0x01 ∷ 0x00 ∷ 0x51 ∷ 0xF1 ∷ []) (Frame a) ∷ []
+    call (0xF0 ∷ 0x40 ∷ 0x10 ∷ []) (yes more) ∷ call (0x01 ∷ 0x00 ∷ 0x51 ∷ 0xF1 ∷ []) (yes (frame a)) ∷ []
 unfolding indexOf ends goesOn runs feedRule eventOf past one-chunk all-end
 exactly = refl
 
 one-less : over 6 ((0xF0 ∷ 0x40 ∷ 0x10 ∷ []) ∷ (0x01 ∷ 0x00 ∷ 0x51 ∷ 0xF1 ∷ []) ∷ []) ≡
-    call (0xF0 ∷ 0x40 ∷ 0x10 ∷ []) More ∷ call (0x01 ∷ 0x00 ∷ 0x51 ∷ 0xF1 ∷ []) Overlong ∷ []
+    call (0xF0 ∷ 0x40 ∷ 0x10 ∷ []) (yes more) ∷ call (0x01 ∷ 0x00 ∷ 0x51 ∷ 0xF1 ∷ []) (yes overlong) ∷ []
 unfolding indexOf ends goesOn runs feedRule eventOf past one-chunk all-end
 one-less = refl

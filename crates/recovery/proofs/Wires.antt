@@ -13,7 +13,10 @@ use Rattle.general.proofs.Cases.{by-test}
 use Rattle.frame.proofs.Wires.{Framed, wire-framed, written-is}
 use Rattle.stuffing.proofs.Stuffing.{has}
 use Rattle.search.specs.First.{indexOf}
-use Rattle.stream.specs.Stream.{Frame, atLast, answerTo}
+use Rattle.splitter.specs.Feed.{frame}
+use Rattle.error.specs.Refusal.{yes}
+use Rattle.stream.specs.Stream.{answerTo}
+use Rattle.stream.specs.Heard.{atLast}
 use Rattle.stream.proofs.Line.{opened, hear, closes, opens-closes}
 use Rattle.recovery.specs.Recovery.{Sent, hasEnd, pending}
 
@@ -92,7 +95,7 @@ module _ (H : ℕ) where
       let r = closes H y o w (omega arith) in
       all-of (y ∷ o) w (suc (indexOf 0xF1 w)) n (r .0) (r .1)
 
-  pub fits-said : {w : List ℕ} → length w ≤ H → answerTo H w ≡ Frame w
+  pub fits-said : {w : List ℕ} → length w ≤ H → answerTo H w ≡ yes (frame w)
   fits-said {w} l = rw (le-leb (length w) H l)
 
 pub sent-framed : {H : ℕ} (f : Sent H) → Framed (f .wire)

@@ -1,5 +1,5 @@
--- Condition 3: after any noise, cut anywhere, every sound frame from the second on comes out whole, in order, by the very call that takes
--- its end marker, with no answer but More between, and parses to what was written; so does the first unless an unclosed start was pending.
+-- Condition 3: `Condition3` is the whole statement, its hypotheses too, in the condition's own words and order.
+-- The theorem `condition-3` (proofs/Recovery) has this type. What a call is, and what it says: stream, specs/Stream.
 use Prim.Native.Nat.{ℕ, _≤_}
 use mathlib.Core.Path.{_≡_}
 use mathlib.Core.Bool.{Bool, false, cond, not, _&&_, _||_}
@@ -9,12 +9,14 @@ use lib.Dec.{eqb}
 use Rattle.error.specs.Refusal.{yes}
 use Rattle.frame.specs.Wire.{Fields}
 use Rattle.frame.specs.Rule.{encodeRule, parseRule}
-use Rattle.stream.specs.Stream.{Said, Frame, Call, call, takenBy, answers, answerTo}
+use Rattle.splitter.specs.declared.FrameSplitter.{FrameSplitter}
+use Rattle.splitter.specs.Feed.{frame, new}
+use Rattle.stream.specs.Stream.{Said, Call, call, Feeds, joined, takenBy, answers, answerTo}
 use Rattle.stream.specs.Rust.{rustFrames}
 
 -- ---- the stream
 
--- a sound frame: the wire that `encode` writes from some fields, no longer than the hold buffer
+-- "sound frames, each written by our encoder and no longer than the hold buffer", which has H bytes
 pub record Sent (H : ℕ) : Type 0 where
   pub fields : Fields
   pub room : ℕ
@@ -30,7 +32,7 @@ abbrev pub hasEnd : List ℕ → Bool
 hasEnd [] = false
 hasEnd (b ∷ l) = eqb b 0xF1 || hasEnd l
 
--- the unclosed start that is pending after some bytes: from the first F0 with no F1 behind it, all of them; or none
+-- the "unclosed start" that is pending after some bytes: from the first F0 with no F1 behind it, all of them; or none
 abbrev pub pending : List ℕ → List ℕ
 pending [] = []
 pending (b ∷ l) = cond (eqb b 0xF0 && not (hasEnd l)) (b ∷ l) (pending l)
@@ -41,30 +43,47 @@ pending (b ∷ l) = cond (eqb b 0xF0 && not (hasEnd l)) (b ∷ l) (pending l)
 abbrev pub answersFor : ℕ → List ℕ → List Said
 answersFor H b = map (answerTo H) (rustFrames [] (b ∷ []))
 
--- Calls that take the bytes w between them: the last takes the end marker of w and answers a, the others answer `said`, and else More.
-pub record Takes (w : List ℕ) (said : List Said) (a : Said) (t : List Call) : Type 0 where
+-- "with no answer but More between, by the very call that takes its end marker": calls that take the bytes b between them; the last of them
+-- takes the end marker that b ends with, and answers a; those before it answer More
+pub record Takes (b : List ℕ) (a : Said) (t : List Call) : Type 0 where
   pub before : List Call
   pub part : List ℕ
   pub calls : t ≡ before ++ (call (part ++ (0xF1 ∷ [])) a ∷ [])
-  pub bytes : takenBy before ++ (part ++ (0xF1 ∷ [])) ≡ w
-  pub others : answers before ≡ said
+  pub bytes : takenBy before ++ (part ++ (0xF1 ∷ [])) ≡ b
+  pub between : answers before ≡ []
 
--- Each frame in turn is answered whole by the call that takes its end marker, and no other call answers anything but More; then come
--- the calls that take the rest of the stream, and answer what it calls for.
-pub data InTurn {H : ℕ} (rest : List ℕ) : List (Sent H) → List Call → Type 0 where
-  end : {t : List Call} → takenBy t ≡ rest → answers t ≡ answersFor H rest → InTurn rest [] t
-  then : {f : Sent H} {fs : List (Sent H)} {t u : List Call} → Takes (f .wire) [] (Frame (f .wire)) t → InTurn rest fs u → InTurn rest (f ∷ fs) (t ++ u)
+-- "handed over whole, in order": frame after frame, each by calls of its own; then the calls over what follows, which say what it calls for
+pub data InOrder {H : ℕ} (rest : List ℕ) : List (Sent H) → List Call → Type 0 where
+  end : {t : List Call} → takenBy t ≡ rest → answers t ≡ answersFor H rest → InOrder rest [] t
+  then : {f : Sent H} {fs : List (Sent H)} {t u : List Call} → Takes (f .wire) (yes (frame (f .wire))) t → InOrder rest fs u → InOrder rest (f ∷ fs) (t ++ u)
 
--- The calls t over noise, the frames f ∷ fs, and any rest, or none.
-pub record Recovered {H : ℕ} (noise : List ℕ) (f : Sent H) (fs : List (Sent H)) (rest : List ℕ) (t : List Call) : Type 0 where
+-- the calls t over noise, the frames f ∷ fs, and whatever follows them
+pub record HandedOver {H : ℕ} (noise : List ℕ) (f : Sent H) (fs : List (Sent H)) (rest : List ℕ) (t : List Call) : Type 0 where
+  -- the calls up to the noise's last answer took bytes of the noise alone, and said all that it calls for; they left some of it, or none
+  pub noisy : List Call
+  pub left : List ℕ
+  pub apart : takenBy noisy ++ left ≡ noise
+  pub says : answers noisy ≡ answersFor H noise
+  -- the calls from there to the first frame's end marker: an unclosed start that was pending and the frame are answered as one
   pub first : List Call
+  pub meets : Takes (left ++ f .wire) (answerTo H (pending noise ++ f .wire)) first
+  -- "so is the first, unless an unclosed start was pending"
+  pub clear : pending noise ≡ [] → Takes (left ++ f .wire) (yes (frame (f .wire))) first
+  -- "Every frame from the second on"
   pub later : List Call
-  pub calls : t ≡ first ++ later
-  -- up to the first frame's end: what the noise calls for, and at that end one answer, to the pending start and the frame as one
-  pub meets : Takes (noise ++ f .wire) (answersFor H noise) (answerTo H (pending noise ++ f .wire)) first
-  -- so with no start pending the first frame is answered whole
-  pub clear : pending noise ≡ [] → Takes (noise ++ f .wire) (answersFor H noise) (Frame (f .wire)) first
-  -- every other frame is
-  pub others : InTurn rest fs later
-  -- and each parses to the fields that it was written from, given room for its payload
+  pub others : InOrder rest fs later
+  -- these are all calls
+  pub calls : t ≡ noisy ++ (first ++ later)
+  -- "Each then parses to the fields it was written from, given room for its payload."
   pub parses : (g : Sent H) (room : ℕ) → length (g .fields .payload) ≤ room → parseRule (g .wire) room ≡ yes (g .fields)
+
+-- ---- the condition
+
+abbrev pub Condition3 : Type 0
+Condition3 =
+    -- "Take a fresh splitter whose state and hold buffer only its own calls touch, every untaken rest being offered again until none is left."
+    (hold hold′ : List ℕ) (state : FrameSplitter) (chunks : List (List ℕ)) (calls : List Call) → Feeds new hold chunks calls state hold′
+    -- "First come any bytes, cut anywhere; then sound frames, each written by our encoder and no longer than the hold buffer, again cut anywhere."
+    -- (What follows them may be any bytes too.)
+    → (noise : List ℕ) (f : Sent (length hold)) (fs : List (Sent (length hold))) (rest : List ℕ) → joined chunks ≡ noise ++ (wires (f ∷ fs) ++ rest)
+    → HandedOver noise f fs rest calls

@@ -1,5 +1,5 @@
 -- The decimal text of a number: its two cases, how long it is, that it decides the number, that no zero is spare.
--- Assumes nothing.
+-- A proof about a number goes by its last digit and the tenth part before it (`by-tens`).
 use Prim.Native.Nat.{ℕ, zero, suc, _+_, _-_, _*_, _/_, _%_, _^_, _<_, _≤_}
 use mathlib.Core.Path.{_≡_, refl, sym, ap, _∙_}
 use mathlib.Core.List.{List, [], _∷_, _++_}
@@ -110,5 +110,6 @@ no-spare-zero =
     by-tens (λ (n : ℕ). getD (decimalOf n) 0 0 ≡ 0x30 → n ≡ 0)
     (λ n h z. let e : 0x30 + n ≡ 0x30 = sym (ap (λ (l : List ℕ). getD l 0 0) (decimal-small n h)) ∙ z in omega arith)
     (λ n h ih z.
-    let e : n / 10 ≡ 0 = ih (sym (List·getD-append (decimalOf (n / 10)) ((0x30 + n % 10) ∷ []) 0 0 (decimal-some (n / 10))) ∙ sym (ap (λ (l : List ℕ). getD l 0 0) (decimal-large n h)) ∙ z) in
+    let a = List·getD-append (decimalOf (n / 10)) ((0x30 + n % 10) ∷ []) 0 0 (decimal-some (n / 10)) in
+    let e : n / 10 ≡ 0 = ih (sym a ∙ sym (ap (λ (l : List ℕ). getD l 0 0) (decimal-large n h)) ∙ z) in
     absurd (let q : ⊥ = omega arith in q))

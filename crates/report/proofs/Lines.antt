@@ -1,5 +1,5 @@
 -- A whole line: refused where it does not fit, else put at the buffer's front.
--- Assumes nothing.
+-- Then the parts of each of the three lines, in the order in which they are put, and how long they are together.
 use Prim.Native.Nat.{ℕ, _+_, _<_, _≤_}
 use mathlib.Core.Path.{_≡_, refl, sym, ap, _∙_}
 use mathlib.Core.Bool.{Bool, true, false, cond}
@@ -13,7 +13,6 @@ use Rattle.report.specs.Text.{decimalOf, hexOf}
 use Rattle.report.specs.Line.{spaced, fitted, frameText, longText, endText, Lined, resultWords}
 use Rattle.report.specs.Put.{Put}
 use Rattle.frame.specs.declared.RawFrame.{RawFrame}
-use Rattle.addr.specs.Address.{byteOf}
 use Rattle.report.proofs.Decimal.{length-small}
 use Rattle.report.proofs.Stores.{sets-front, put-last, put-length}
 use Rattle.report.proofs.Values.{valuesText}
@@ -57,7 +56,10 @@ long-parts n = refl
 pub long-length : (n : ℕ) → length (decimalOf n) + 8 ≡ length (longText n)
 long-length n = sym (length-append (decimalOf n) longEnd) ∙ ap length (long-parts n)
 
-pub end-parts : (k : ℕ) (mark : Bool) → (((0x65 ∷ 0x6E ∷ 0x64 ∷ []) ++ (0x20 ∷ decimalOf k)) ++ (0x20 ∷ decimalOf (cond mark 1 0))) ++ (0x0A ∷ []) ≡ endText k mark
+abbrev pub endFront : ℕ → Bool → List ℕ
+endFront k mark = ((0x65 ∷ 0x6E ∷ 0x64 ∷ []) ++ (0x20 ∷ decimalOf k)) ++ (0x20 ∷ decimalOf (cond mark 1 0))
+
+pub end-parts : (k : ℕ) (mark : Bool) → endFront k mark ++ (0x0A ∷ []) ≡ endText k mark
 unfolding endText
 end-parts k mark = simp (append-assoc, append-nil)
 
@@ -67,9 +69,6 @@ mark-length false = sym (length-small 0 (lit< tt))
 
 pub end-length : (k : ℕ) (mark : Bool) → length (decimalOf k) + 7 ≡ length (endText k mark)
 end-length k mark = rw (← end-parts k mark) (simp length-append (omega (arith, mark-length mark)))
-
-abbrev pub fieldsText : RawFrame → List ℕ
-fieldsText f = spaced (hexOf (byteOf (f .dest)) ∷ hexOf (byteOf (f .src)) ∷ hexOf (f .«type_id») ∷ decimalOf (f .len) ∷ [])
 
 -- how long the words are that say what parsing said
 pub ok-width : (f : RawFrame) → length (decimalOf (f .len)) + 13 ≡ length (spaced (resultWords (yes f)))

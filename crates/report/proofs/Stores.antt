@@ -1,21 +1,15 @@
--- Runs of stores: one in front of another, one at the front of a buffer, and what the writers promise.
--- Assumes nothing.
-use Prim.Native.Nat.{ℕ, suc, _+_, _<_, _≤_}
+-- Runs of stores: one at the front of a buffer, and what the writers promise.
+-- Two texts put one behind the other are the joined text put (`put-then`), and no length changes.
+use Prim.Native.Nat.{ℕ, _+_, _<_, _≤_}
 use mathlib.Core.Path.{_≡_, refl, sym, ap, _∙_}
 use mathlib.Core.List.{List, [], _∷_, _++_}
 use native.Mathlib.Nat.{add-assoc}
 use native.Mathlib.Numerals.{add-one}
 use native.Mathlib.Omega.{arith}
 use lib.ListN.{length, take, drop, getD, set, length-append}
-use lib.Seq.{sets, sets-eq, length-sets, set-comm, take-suc, length-take-le}
+use lib.Seq.{sets, sets-eq, length-sets, take-suc, length-take-le}
 use Rattle.general.proofs.Stores.{sets-append}
 use Rattle.report.specs.Put.{Put}
-
-pub set-before : (d : List ℕ) (i : ℕ) (t : List ℕ) (j x : ℕ) → j < i → set (sets d i t) j x ≡ sets (set d j x) i t
-set-before d i [] j x h = refl
-set-before d i (y ∷ t) j x h =
-    set-before (set d i y) (suc i) t j x (omega arith)
-    ∙ ap (λ (l : List ℕ). sets l (suc i) t) (set-comm d i j y x (λ e. let q : ⊥ = omega arith in q))
 
 pub sets-front : (d t : List ℕ) → length t ≤ length d → sets d 0 t ≡ t ++ drop (length t) d
 sets-front d t h = let e : 0 + length t ≡ length t = omega arith in sets-eq t d 0 (omega arith) ∙ ap (λ (k : ℕ). t ++ drop k d) e

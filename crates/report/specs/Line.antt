@@ -20,9 +20,13 @@ spaced (w ∷ ws) = 0x20 ∷ (w ++ spaced ws)
 abbrev pub lineOf : List ℕ → List (List ℕ) → List ℕ
 lineOf w ws = w ++ (spaced ws ++ (0x0A ∷ []))
 
--- `OK`, DEST, SRC, TYPE and the payload's length; or `NO`, the refusal's number and its values
+-- DEST, SRC, TYPE and the payload's length
+abbrev pub fieldWords : RawFrame → List (List ℕ)
+fieldWords f = hexOf (byteOf (f .dest)) ∷ hexOf (byteOf (f .src)) ∷ hexOf (f .«type_id») ∷ decimalOf (f .len) ∷ []
+
+-- `OK` and the frame's fields; or `NO`, the refusal's number and its values
 abbrev pub resultWords : Told RawFrame → List (List ℕ)
-resultWords (yes f) = (0x4F ∷ 0x4B ∷ []) ∷ hexOf (byteOf (f .dest)) ∷ hexOf (byteOf (f .src)) ∷ hexOf (f .«type_id») ∷ decimalOf (f .len) ∷ []
+resultWords (yes f) = (0x4F ∷ 0x4B ∷ []) ∷ fieldWords f
 resultWords (no k vs) = (0x4E ∷ 0x4F ∷ []) ∷ decimalOf k ∷ map decimalOf vs
 
 -- event number, wire length, and what parsing said

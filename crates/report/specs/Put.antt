@@ -1,5 +1,5 @@
--- What each private writer promises: a text stands at a place, every other byte is kept, the next place is behind it.
--- Two such promises, one behind the other, are one of the joined text (proofs/Stores: put-then).
+-- Only private contracts cite this, and a client may skip it: a text stands at a place, every other byte is kept, the next place
+-- is behind it. Two such promises, one behind the other, are one of the joined text (proofs/Stores: put-then).
 use Prim.Native.Nat.{ℕ, _+_}
 use mathlib.Core.Path.{_≡_}
 use mathlib.Core.List.{List}

@@ -1,22 +1,21 @@
 -- One event: a line that fits is put, and what one call of the splitter comes to.
--- Assumes nothing.
+-- A line is at most 128 bytes, so one that is put where 128 fit is not refused (`wrote`).
 use Prim.Native.Nat.{ℕ, _≤_}
 use mathlib.Core.Path.{_≡_, refl, sym, ap, _∙_}
-use mathlib.Core.List.{List, [], _∷_, _++_}
+use mathlib.Core.List.{List, []}
 use native.Mathlib.Omega.{arith}
 use lib.Dec.{lit≤}
-use lib.ListN.{length, drop}
+use lib.ListN.{length}
 use borrow.Author.Tests.{le-leb}
-use Rattle.error.specs.Refusal.{Told, yes, no, onYes, filled}
+use Rattle.error.specs.Refusal.{Told, yes, onYes, filled}
 use Rattle.report.specs.Line.{Lined, fitted}
 use Rattle.splitter.specs.declared.Fed.{Fed}
-use Rattle.splitter.specs.Feed.{Given, feedRule, toldEvent}
-use Rattle.splitter.specs.Feed.{shown as shownFed}
+use Rattle.splitter.specs.Feed.{Given, toldEvent}
+use Rattle.splitter.specs.Feed.{givenBy}
 use Rattle.stream.specs.Stream.{Said, saidOf}
-use Rattle.session.specs.declared.Step.{Step}
 use Rattle.session.specs.Lines.{lineTo, numberTo}
-use Rattle.session.specs.Piece.{Stage, stage, fed, said, stageAfter, payloadTo, eventText}
-use Rattle.session.specs.Event.{countOf, Wrote, Stepped}
+use Rattle.session.specs.Piece.{Stage, stage, fed, said, payloadTo}
+use Rattle.session.specs.Event.{countOf, Wrote, Stepped, stepOf}
 
 pub wrote : (text old : List ℕ) (told : Told ℕ) (new : List ℕ) → Lined text old told new → 128 ≤ length old → Wrote text old (countOf told) new
 unfolding fitted
@@ -31,10 +30,10 @@ wrote text old told new l h =
 
 -- r is a reply of `feed` with its hold buffer h′, and a what it says
 pub stepped :
-    (t : Stage) (c out : List ℕ) (f : Fed) (h′ : List ℕ) → shownFed f h′ ≡ fed t c
+    (t : Stage) (c out : List ℕ) (f : Fed) (h′ : List ℕ) → givenBy f h′ ≡ fed t c
     → (a : Said) → saidOf c h′ (toldEvent (f .event)) ≡ a
     → (w : ℕ) (p′ new : List ℕ) → p′ ≡ payloadTo (t .payload) a → Wrote (lineTo (length (t .payload)) (t .session .number) a) out w new
-    → Stepped t c out (record { session = record { splitter = f .splitter; number = numberTo (t .session .number) a }; taken = f .taken; written = w }) h′ p′ new
+    → Stepped t c out (stepOf (f .splitter) (numberTo (t .session .number) a) (f .taken) w) h′ p′ new
 stepped t c out f h′ e a s w p′ new k l =
     let q : a ≡ said t c = sym s ∙ ap (λ (g : Given). saidOf c (g .hold) (g .answer)) e in
     record {

@@ -1,31 +1,27 @@
--- The contracts of `session` allow one reply, one session and one content of each lent buffer.
--- Assumes nothing.
-use mathlib.Core.Path.{_≡_, refl, sym, ap, _∙_}
-use mathlib.Core.List.{List}
-use Prim.Native.Nat.{ℕ}
-use denote.Ref.{RefT}
-use Rattle.error.specs.Refusal.{Told}
+-- Two replies that a contract of `session` allows for one input are equal, and so is every lent byte at exit, by the contract as the
+-- check reads it off src/ (`Post`). A returned reference also has a ghost name, of which no contract speaks.
+use mathlib.Core.Path.{_≡_, refl, ap}
+use Rattle.general.proofs.One.{plain}
 use Rattle.error.proofs.Decides.{one-usize}
-use Rattle.session.specs.declared.Session.{Session}
-use Rattle.session.specs.declared.Ran.{Ran}
-use Rattle.session.specs.Piece.{Stage, Done, pieceRule, frontOf, doneBy}
+use Rattle.session.specs.Piece.{Done}
+use Rattle.session.proofs.Session.new.Reads as new
+use Rattle.session.proofs.Session.piece.Reads as piece
+use Rattle.session.proofs.text_of.Reads as text-of
 
-pub one-new : {x : Session} (r s : Session) → r ≡ x → s ≡ x → r ≡ s
-one-new r s p q = p ∙ sym q
+pub one-new : (κs a r s x y : _) → new.Post κs a r x → new.Post κs a s y → r ≡ s
+one-new κs a r s x y = plain
 
--- `Session::piece`: r, h, p and o are a reply and the buffers at exit, and so are r′, h′, p′ and o′
-pub one-ran : (t : Stage) (c out : List ℕ) (r r′ : Ran) (h h′ p p′ o o′ : List ℕ) → doneBy r h p o ≡ pieceRule t c out → doneBy r′ h′ p′ o′ ≡ pieceRule t c out
-    → (r ≡ r′) × (h ≡ h′) × (p ≡ p′) × (o ≡ o′)
-one-ran t c out r r′ h h′ p p′ o o′ e e′ =
-    let q = e ∙ sym e′ in
-    let reply = one-usize (ap (λ (d : Done). d .reply) q) refl in (
-      λ i. record { reply = reply i; session = q i .stage .session },
-      ap (λ (d : Done). d .stage .hold) q,
-      ap (λ (d : Done). d .stage .payload) q,
-      ap (λ (d : Done). d .out) q,
+-- the reply and the session, then the bytes of the hold buffer, the payload buffer and the buffer of lines
+pub one-piece : (κs a r s x y : _) → piece.Post κs a r x → piece.Post κs a s y
+    → (r ≡ s) × (x .1 .0 .now ≡ y .1 .0 .now) × (x .1 .1 .0 .now ≡ y .1 .1 .0 .now) × (x .1 .1 .1 .1 .0 .now ≡ y .1 .1 .1 .1 .0 .now)
+one-piece κs a r s x y p q =
+    let same = plain p q in
+    let reply = one-usize (ap (λ (d : Done). d .reply) same) refl in (
+      λ i. record { reply = reply i; session = same i .stage .session },
+      ap (λ (d : Done). d .stage .hold) same,
+      ap (λ (d : Done). d .stage .payload) same,
+      ap (λ (d : Done). d .out) same,
     )
 
--- `text_of`: its bytes, and where they lie
-pub one-text : (told : Told ℕ) (out r s : RefT (List ℕ)) → r .now ≡ frontOf told (out .now) → r .ptr ≡ out .ptr → s .now ≡ frontOf told (out .now) → s .ptr ≡ out .ptr
-    → (r .now ≡ s .now) × (r .ptr ≡ s .ptr)
-one-text told out r s a b c d = (a ∙ sym c, b ∙ sym d)
+pub one-text-of : (κs a r s x y : _) → text-of.Post κs a r x → text-of.Post κs a s y → (r .now ≡ s .now) × (r .ptr ≡ s .ptr)
+one-text-of κs a r s x y p q = (plain (p .0) (q .0), plain (p .1) (q .1))

@@ -1,44 +1,20 @@
 -- A whole piece: what holds after each call of the splitter, from the first to the last.
--- Assumes nothing.
+-- `Going` is the invariant of that loop; where all is taken it is the rule's own answer (`finished`).
 use Prim.Native.Nat.{ℕ, zero, suc, _+_, _-_, _*_, _<_, _≤_}
 use mathlib.Core.Path.{_≡_, refl, sym, ap, _∙_}
-use mathlib.Core.Bool.{Bool, true, false, cond}
+use mathlib.Core.Bool.{false}
 use mathlib.Core.List.{List, [], _∷_, _++_, append-assoc, append-nil}
 use native.Mathlib.Nat.{not-suc-le-zero}
 use native.Mathlib.Omega.{arith}
-use lib.Dec.{ltb, eqb}
 use lib.ListN.{length, take, drop, length-append, length-drop, drop-of-length-le}
 use lib.Seq.{drop-drop, take-all, take-at, drop-at}
-use borrow.Author.Tests.{le-ltb}
 use Rattle.error.specs.Refusal.{yes}
-use Rattle.general.proofs.Cases.{by-test}
-use Rattle.splitter.specs.declared.FrameSplitter.{FrameSplitter}
-use Rattle.search.specs.First.{firstFrom}
-use Rattle.splitter.specs.Feed.{feedRule, runs, ends, goesOn, isBad, isOpen, isKept, startIn, lengthWith}
-use Rattle.splitter.proofs.Laws.{kept-is}
+use Rattle.splitter.specs.Feed.{isBad}
+use Rattle.splitter.proofs.Laws.{good-after}
 use Rattle.stream.proofs.Ends.{feed-within, feed-moves}
-use Rattle.session.specs.declared.Session.{Session}
 use Rattle.session.specs.declared.Step.{Step}
-use Rattle.session.specs.Piece.{Stage, stage, fed, stageAfter, Work, work, behind, works, Done, done, allLines, eventText}
-use Rattle.session.specs.Event.{Wrote, Stepped}
-
--- a state that is not refused gives one that is not refused
-pub good-after : (s : FrameSplitter) (h c : List ℕ) → isBad s (length h) ≡ false → isBad (feedRule s h c .state) (length h) ≡ false
-unfolding feedRule runs ends goesOn
-good-after s h c good =
-    let i = startIn s c in
-    let j = firstFrom 0xF1 i c in
-    let none : ltb (length h) 0 ≡ false = le-ltb (length h) 0 (omega arith) in
-    rw good
-    (by-test (ltb j (length c))
-    (λ l.
-    by-test (isKept s (length h) (j + 1 - i))
-    (λ k. by-test (isOpen s) (λ o. rw (l, k, o, none)) (λ o. rw (l, k, o, none)))
-    (λ k. rw (l, k, none)))
-    (λ l.
-    by-test (isKept s (length h) (length c - i))
-    (λ k. rw (l, k, le-ltb _ _ (kept-is s (length h) (length c - i) k .1)))
-    (λ k. rw (l, k, none))))
+use Rattle.session.specs.Piece.{Stage, stage, fed, stageAfter, Work, work, behind, works, done, allLines, eventText}
+use Rattle.session.specs.Event.{Stepped}
 
 works-end : (k : ℕ) (t : Stage) → works k t [] ≡ work [] t
 unfolding works
@@ -115,16 +91,24 @@ module _ (t₀ : Stage) (c out₀ : List ℕ) where
           let l : r .taken ≤ length c - at = rw (← length-drop at c, s .taken) (feed-within (t .session .splitter) (t .hold) (drop at c)) in
           omega arith
 
-      more : (k : ℕ) → g .calls ≡ suc k → works (length c) t₀ c ≡ behind (g .text ++ eventText t (drop at c)) (works k (stage (r .session) hold payload) (drop (at + r .taken) c))
+      abbrev later : ℕ → Work
+      later k = works k (stage (r .session) hold payload) (drop (at + r .taken) c)
+
+      more : (k : ℕ) → g .calls ≡ suc k → works (length c) t₀ c ≡ behind (g .text ++ eventText t (drop at c)) (later k)
       more k e =
           g .rest
           ∙ ap (λ (n : ℕ). behind (g .text) (works n t (drop at c))) e
           ∙ ap (behind (g .text)) (works-step k t (drop at c) some)
           ∙ rw (← s .after, ← s .taken, drop-drop (r .taken) at c)
-          (ap (λ (l : List ℕ). work l (works k (stage (r .session) hold payload) (drop (at + r .taken) c) .stage)) (sym (append-assoc (g .text) (eventText t (drop at c)) (works k (stage (r .session) hold payload) (drop (at + r .taken) c) .text))))
+          (ap (λ (l : List ℕ). work l (later k .stage)) (sym (append-assoc (g .text) (eventText t (drop at c)) (later k .text))))
 
       -- the part of the buffer that was lent comes back
-      lent : (k : ℕ) → length out ≤ written + k → take written out ++ (new ++ drop k (drop written out)) ≡ (g .text ++ eventText t (drop at c)) ++ drop (length (g .text ++ eventText t (drop at c))) out₀
+      abbrev back-in : ℕ → List ℕ
+      back-in k = take written out ++ (new ++ drop k (drop written out))
+
+      lent : (k : ℕ) → length out ≤ written + k
+          → let text = g .text ++ eventText t (drop at c) in
+          back-in k ≡ text ++ drop (length text) out₀
       lent k l =
           let x = eventText t (drop at c) in
           let past : length (drop written out) ≤ k = simp length-drop (omega arith) in
@@ -133,10 +117,10 @@ module _ (t₀ : Stage) (c out₀ : List ℕ) where
 
       pub goes-on :
           (k : ℕ) → length out ≤ written + k → length hold ≡ length (t .hold) → length payload ≡ length (t .payload)
-          → Going (stage (r .session) hold payload) (at + r .taken) (written + r .written) (take written out ++ (new ++ drop k (drop written out)))
+          → Going (stage (r .session) hold payload) (at + r .taken) (written + r .written) (back-in k)
       goes-on k l eh ep = with-calls (g .calls) refl
         where
-          with-calls : (n : ℕ) → g .calls ≡ n → Going (stage (r .session) hold payload) (at + r .taken) (written + r .written) (take written out ++ (new ++ drop k (drop written out)))
+          with-calls : (n : ℕ) → g .calls ≡ n → Going (stage (r .session) hold payload) (at + r .taken) (written + r .written) (back-in k)
           with-calls zero e = absurd (let q : ⊥ = omega (arith, g .enough) in q)
           with-calls (suc m) e =
               let x = eventText t (drop at c) in
@@ -163,6 +147,7 @@ module _ (t₀ : Stage) (c out₀ : List ℕ) where
       ∙ ap (behind (g .text)) (works-end (g .calls) t)
       ∙ ap (λ (l : List ℕ). work l t) (append-nil (g .text))
 
-  pub finished : {t : Stage} {at written : ℕ} {out : List ℕ} → Going t at written out → length c ≤ at → record { reply = yes written; stage = t; out = out } ≡ allLines t₀ c out₀
+  pub finished : {t : Stage} {at written : ℕ} {out : List ℕ} → Going t at written out → length c ≤ at
+      → record { reply = yes written; stage = t; out = out } ≡ allLines t₀ c out₀
   finished {t} g h =
       (λ i. record { reply = yes (g .count i); stage = t; out = g .bytes i }) ∙ sym (ap (λ (w : Work). done (yes (w .text)) (w .stage) out₀) (gone g h))

@@ -1,35 +1,38 @@
 -- What the program prints is the line of each of the Rust's frames, those longer than H replaced, however its input is cut.
--- `prints` says which lines, `any-cut` that two cuttings print the same to the last byte. Assumes nothing.
+-- `prints` says which lines, `any-cut` that two cuttings print the same to the last byte; both of any run that the contracts allow.
 use Prim.Native.Nat.{ℕ, zero, suc, _≤_}
-use mathlib.Core.Path.{_≡_, refl, sym, ap, _∙_}
+use mathlib.Core.Path.{_≡_, refl, sym, ap, _∙_, subst}
 use mathlib.Core.Bool.{false}
 use mathlib.Core.List.{List, [], _∷_, _++_, map, append-assoc}
 use native.Mathlib.Nat.{not-suc-le-zero}
 use native.Mathlib.Omega.{arith}
 use lib.Dec.{ltb}
-use lib.ListN.{length, take, drop, length-append, length-drop}
+use lib.ListN.{length, drop, length-append, length-drop}
 use lib.Seq.{take-append-seam}
-use borrow.Author.Tests.{ltb-false, le-leb}
+use borrow.Author.Tests.{ltb-false, le-leb, lt-leb}
 use Rattle.error.specs.Refusal.{Told, yes, no, onYes, filled, andThen}
 use Rattle.error.specs.Result.{toldUsize}
 use Rattle.general.proofs.Cases.{by-test}
 use Rattle.frame.specs.Wire.{Fields}
 use Rattle.frame.specs.Rule.{checkRule, roomRule, parseRule}
 use Rattle.splitter.specs.declared.FrameSplitter.{FrameSplitter}
-use Rattle.splitter.specs.Feed.{Given, new, toldEvent, isBad}
-use Rattle.stream.specs.Stream.{Said, More, Overlong, Frame, Refused, saidOf, Call, Calls, Feeds, joined, unlessMore, answers, answerTo}
+use Rattle.splitter.specs.Feed.{Given, new, toldEvent, isBad, more, overlong, frame}
+use Rattle.stream.specs.Stream.{Said, saidOf, Call, Calls, Feeds, joined, unlessMore, answers, answerTo}
 use Rattle.stream.specs.Stream as stream
 use Rattle.stream.specs.Rust.{rustFrames}
-use Rattle.stream.proofs.Calls.{Stands, stands-fresh, Agrees, one-call}
+use Rattle.stream.proofs.Calls.{Stands, fits, long, stands-fresh, stands-good, Agrees, one-call}
 use Rattle.splitter.proofs.One.{fedOf}
 use Rattle.stream.proofs.Ends.{allowed, feeds-calls}
-use Rattle.stream.proofs.Stream.{any-cutting}
+use Rattle.stream.proofs.Line.{opened}
+use Rattle.stream.proofs.Stream.{follows}
 use Rattle.stream.proofs.Rust.{as-the-rust}
 use Rattle.report.specs.Line.{endText, fitted, Lined}
 use Rattle.session.specs.declared.Ran.{Ran}
-use Rattle.session.specs.Lines.{lineTo, numberTo, linesOf}
-use Rattle.session.specs.Piece.{Stage, stage, fed, said, payloadTo, stageAfter, Work, work, behind, works, roomFor, pieceRule, frontOf, doneBy, eventText}
-use Rattle.session.specs.Program.{first, printed, allPieces}
+use Rattle.session.specs.Lines.{lineTo, numberTo, linesOf, endTo}
+use Rattle.session.specs.Piece.{Stage, stage, fed, said, payloadTo, stageAfter, eventText}
+use Rattle.session.specs.Piece.{Work, work, behind, works, roomFor, Done, pieceRule, frontOf, doneBy}
+use Rattle.session.specs.Program.{first, Pieces, Run}
+use Rattle.session.specs.Program as program
 use Rattle.session.proofs.Rules.{piece-fits}
 
 -- the payload buffer keeps its length: a payload that is answered fits it
@@ -42,17 +45,17 @@ sized p (yes f) =
 
 payload-size : (p : List ℕ) (a : Said) → length (payloadTo p a) ≡ length p
 unfolding parseRule
-payload-size p More = refl
-payload-size p Overlong = refl
-payload-size p (Frame w) = sized p (checkRule w)
-payload-size p (Refused k vs) = refl
+payload-size p (yes more) = refl
+payload-size p (yes overlong) = refl
+payload-size p (yes (frame w)) = sized p (checkRule w)
+payload-size p (no k vs) = refl
 
 -- an answer's line, in front of those of the answers after it
 said-first : (m n : ℕ) (a : Said) (l : List Said) → lineTo m n a ++ linesOf m (numberTo n a) l ≡ linesOf m n (unlessMore a ++ l)
-said-first m n More l = refl
-said-first m n Overlong l = refl
-said-first m n (Frame w) l = refl
-said-first m n (Refused k vs) l = refl
+said-first m n (yes more) l = refl
+said-first m n (yes overlong) l = refl
+said-first m n (yes (frame w)) l = refl
+said-first m n (no k vs) l = refl
 
 -- ---- what is read back from a buffer of lines
 
@@ -70,13 +73,15 @@ line-shown {text} {old} l h =
     let b = l .bytes ∙ ap (λ (x : Told (List ℕ)). filled x old) f in
     (λ i. frontOf (r i) (b i)) ∙ front text (drop (length text) old)
 
--- of a piece that is not refused, its lines
-pub piece-shown :
-    (t : Stage) (c out : List ℕ) (r : Ran) (h p new : List ℕ) → doneBy r h p new ≡ pieceRule t c out
-    → isBad (t .session .splitter) (length (t .hold)) ≡ false → roomFor (length c) ≤ length out → frontOf (toldUsize (r .reply)) new ≡ works (length c) t c .text
-piece-shown t c out r h p new e good room =
+-- A piece that is not refused: what is read back are its lines, and the session and the two buffers at exit are where the work ends.
+pub piece-does :
+    (t : Stage) (c out : List ℕ) (r : Ran) (h p out′ : List ℕ) → doneBy r h p out′ ≡ pieceRule t c out
+    → isBad (t .session .splitter) (length (t .hold)) ≡ false → roomFor (length c) ≤ length out
+    → (frontOf (toldUsize (r .reply)) out′ ≡ works (length c) t c .text) × (stage (r .session) h p ≡ works (length c) t c .stage)
+piece-does t c out r h p out′ e good room =
     let q = e ∙ sym (piece-fits t c out good room) in
-    (λ i. frontOf (q i .reply) (q i .out)) ∙ front (works (length c) t c .text) (drop (length (works (length c) t c .text)) out)
+    let text = works (length c) t c .text in
+    ((λ i. frontOf (q i .reply) (q i .out)) ∙ front text (drop (length text) out), ap (λ (d : Done). d .stage) q)
 
 -- ---- the pieces are calls of the splitter
 
@@ -86,27 +91,27 @@ record Traced (t : Stage) (cs : List (List ℕ)) (w : Work) : Type 0 where
   feeds : Feeds (t .session .splitter) (t .hold) cs trace (w .stage .session .splitter) (w .stage .hold)
   text : w .text ≡ linesOf (length (t .payload)) (t .session .number) (answers trace)
 
--- all pieces after this one, from any state that stands for some open bytes
-abbrev Rest : List (List ℕ) → Type 0
-Rest cs = (t : Stage) (v : List ℕ) → Stands (t .session .splitter) (t .hold) v → Traced t cs (allPieces t cs)
+-- what comes after a piece, wherever the work then stands
+abbrev After : Stage → List (List ℕ) → Work → Type 0
+After t cs w = (v : List ℕ) → Stands (t .session .splitter) (t .hold) v → Traced t cs w
 
 past : {t : Stage} {cs : List (List ℕ)} {w : Work} → Traced t cs w → Traced t ([] ∷ cs) w
 past r = record { trace = r .trace; feeds = stream.Feeds.used (r .feeds); text = r .text }
 
-one-piece : (k : ℕ) (t : Stage) (c : List ℕ) (cs : List (List ℕ)) (v : List ℕ) → Stands (t .session .splitter) (t .hold) v → length c ≤ k → Rest cs
-    → Traced t (c ∷ cs) (behind (works k t c .text) (allPieces (works k t c .stage) cs))
+one-piece : (k : ℕ) (t : Stage) (c : List ℕ) (cs : List (List ℕ)) (w : Work) (v : List ℕ) → Stands (t .session .splitter) (t .hold) v → length c ≤ k
+    → After (works k t c .stage) cs w → Traced t (c ∷ cs) (behind (works k t c .text) w)
 unfolding works
-one-piece zero t [] cs v s l rest = past (rest t v s)
-one-piece zero t (b ∷ c) cs v s l rest = absurd (not-suc-le-zero l)
-one-piece (suc k) t [] cs v s l rest = past (rest t v s)
-one-piece (suc k) t (b ∷ c) cs v s l rest =
+one-piece zero t [] cs w v s l rest = past (rest v s)
+one-piece zero t (b ∷ c) cs w v s l rest = absurd (not-suc-le-zero l)
+one-piece (suc k) t [] cs w v s l rest = past (rest v s)
+one-piece (suc k) t (b ∷ c) cs w v s l rest =
     let d : List ℕ = b ∷ c in
     let g : Given = fed t d in
     let a : Agrees (t .hold) d v g = one-call v d s in
     let t′ : Stage = stageAfter t d in
     let le : length (drop (g .taken) d) ≤ k = rw (length-drop (g .taken) d) (omega (arith, a .moves (omega arith))) in
-    let r : Traced t′ (drop (g .taken) d ∷ cs) (behind (works k t′ (drop (g .taken) d) .text) (allPieces (works k t′ (drop (g .taken) d) .stage) cs)) =
-    one-piece k t′ (drop (g .taken) d) cs _ (a .stands) le rest
+    let r : Traced t′ (drop (g .taken) d ∷ cs) (behind (works k t′ (drop (g .taken) d) .text) w) =
+    one-piece k t′ (drop (g .taken) d) cs w _ (a .stands) le rest
     in
     let e = allowed (t .session .splitter) (t .hold) d in
     let q : saidOf d (g .hold) (toldEvent (fedOf g .event)) ≡ said t d = ap (λ (x : Given). saidOf d (g .hold) (x .answer)) e in
@@ -116,36 +121,49 @@ one-piece (suc k) t (b ∷ c) cs v s l rest =
       trace = _;
       feeds = stream.Feeds.feed (fedOf g) (g .hold) e (r .feeds);
       text =
-          append-assoc (eventText t d) (works k t′ (drop (g .taken) d) .text) (allPieces (works k t′ (drop (g .taken) d) .stage) cs .text)
+          append-assoc (eventText t d) (works k t′ (drop (g .taken) d) .text) (w .text)
           ∙ ap (λ (x : List ℕ). eventText t d ++ x) (r .text)
           ∙ ap (λ (x : ℕ). eventText t d ++ linesOf x (numberTo n (said t d)) (answers (r .trace))) (payload-size (t .payload) (said t d))
           ∙ said-first m n (said t d) (answers (r .trace))
           ∙ ap (λ (x : Said). linesOf m n (unlessMore x ++ answers (r .trace))) (sym q);
     }
 
-all-pieces : (cs : List (List ℕ)) → Rest cs
-all-pieces [] t v s = record { trace = []; feeds = stream.Feeds.done; text = refl }
-all-pieces (c ∷ cs) t v s = one-piece (length c) t c cs v s (omega arith) (all-pieces cs)
+traced : {t t′ : Stage} {cs : List (List ℕ)} {text : List ℕ} → Pieces t cs text t′ → After t cs (work text t′)
+traced program.Pieces.done v s = record { trace = []; feeds = stream.Feeds.done; text = refl }
+traced {t} {t′} (program.Pieces.piece {c = c} {cs = cs} {text = text} out r h p out′ room e rest) v s =
+    let d = piece-does t c out r h p out′ e (stands-good s) room in
+    let after : After (works (length c) t c .stage) cs (work text t′) = subst (λ (y : Stage). After y cs (work text t′)) (d .1) (λ v′ s′. traced rest v′ s′) in
+    rw (d .0) (one-piece (length c) t c cs (work text t′) v s (omega arith) after)
 
 -- ---- the theorems
 
-module _ (h p : List ℕ) (cs : List (List ℕ)) where
-  traced : Traced (first h p) cs (allPieces (first h p) cs)
-  traced = all-pieces cs (first h p) [] (stands-fresh new h)
+module _ {h p : List ℕ} {cs : List (List ℕ)} {text : List ℕ} {t : Stage} (c : Pieces (first h p) cs text t) where
+  traces : Traced (first h p) cs (work text t)
+  traces = traced c [] (stands-fresh new h)
 
-  calls : Calls new h (joined cs) (traced .trace) (allPieces (first h p) cs .stage .session .splitter) (allPieces (first h p) cs .stage .hold)
-  calls = feeds-calls (traced .feeds)
+  calls : Calls new h (joined cs) (traces .trace) (t .session .splitter) (t .hold)
+  calls = feeds-calls (traces .feeds)
 
-  -- H is the hold buffer's length; the Rust is fed the same bytes, cut in any other way
-  pub prints : (ds : List (List ℕ)) → joined cs ≡ joined ds → allPieces (first h p) cs .text ≡ linesOf (length p) 0 (map (answerTo (length h)) (rustFrames [] ds))
-  prints ds e = traced .text ∙ ap (linesOf (length p) 0) (as-the-rust ds (rw e at calls))
+-- the line at the end is that of the bytes that are left open
+stands-end : {s : FrameSplitter} {h w : List ℕ} → Stands s h w → endText (s .count) (s .skipping) ≡ endTo (length h) w
+stands-end (fits l n m k) = rw (le-leb _ _ l, n, m)
+stands-end (long l n m) = rw (lt-leb _ _ l, n, m)
+
+-- H is the hold buffer's length; the Rust is fed the same bytes, cut in any other way
+pub prints : {h p : List ℕ} {cs : List (List ℕ)} {printed : List ℕ} (ds : List (List ℕ)) → joined cs ≡ joined ds → Run h p cs printed
+    → printed ≡ linesOf (length p) 0 (map (answerTo (length h)) (rustFrames [] ds)) ++ endTo (length h) (opened [] (joined ds))
+prints {h} {p} ds e r =
+    let c : Calls new h (joined ds) _ (r .stage .session .splitter) (r .stage .hold) = rw e at (calls (r .pieces)) in
+    let f = follows [] (stands-fresh new h) c in
+    let lines = traces (r .pieces) .text ∙ ap (linesOf (length p) 0) (as-the-rust ds c) in
+    let shown = line-shown (r .last) (omega (arith, r .last .short, r .room)) in
+    let last = shown ∙ stands-end (f .stands) ∙ ap (λ (n : ℕ). endTo n (opened [] (joined ds))) (f .size) in
+    r .whole ∙ (λ i. lines i ++ last i)
 
 -- pieces of one stream, cut in two ways, with buffers of equal lengths, whatever they hold
-pub any-cut : (h p : List ℕ) (cs₁ : List (List ℕ)) (h′ p′ : List ℕ) (cs₂ : List (List ℕ)) → length h ≡ length h′ → length p ≡ length p′ → joined cs₁ ≡ joined cs₂
-    → printed (allPieces (first h p) cs₁) ≡ printed (allPieces (first h′ p′) cs₂)
-any-cut h p cs₁ h′ p′ cs₂ eh ep e =
-    let a = any-cutting eh (rw e at (calls h p cs₁)) (calls h′ p′ cs₂) in
-    let texts : allPieces (first h p) cs₁ .text ≡ allPieces (first h′ p′) cs₂ .text =
-    traced h p cs₁ .text ∙ (λ i. linesOf (ep i) 0 (a .says i)) ∙ sym (traced h′ p′ cs₂ .text)
-    in
-    λ i. texts i ++ endText (a .state i .count) (a .state i .skipping)
+pub any-cut : {h p h′ p′ : List ℕ} {cs cs′ : List (List ℕ)} {printed printed′ : List ℕ} → length h ≡ length h′ → length p ≡ length p′ → joined cs ≡ joined cs′
+    → Run h p cs printed → Run h′ p′ cs′ printed′ → printed ≡ printed′
+any-cut {cs′ = ds} eh ep e r r′ =
+    prints ds e r
+    ∙ (λ i. linesOf (ep i) 0 (map (answerTo (eh i)) (rustFrames [] ds)) ++ endTo (eh i) (opened [] (joined ds)))
+    ∙ sym (prints ds refl r′)

@@ -1,6 +1,6 @@
 -- Which case of the piece's rule holds, by the splitter's state and by the room.
--- Assumes nothing.
-use Prim.Native.Nat.{ℕ, _-_, _*_, _^_, _<_, _≤_}
+-- One of the three holds for every input: 9, 8, or all of the piece is taken.
+use Prim.Native.Nat.{ℕ, _*_, _^_, _<_, _≤_}
 use mathlib.Core.Path.{_≡_}
 use mathlib.Core.Bool.{true, false}
 use mathlib.Core.List.{List, [], _∷_}

@@ -1,10 +1,11 @@
--- What the private parts of a piece's work promise: one event's line at the front of a buffer, and one call's whole effect.
+-- Only private contracts cite this, and a client may skip it: one event's line at the front of a buffer, and one call's whole effect.
 -- `pieceRule` is the whole; these are its steps.
 use Prim.Native.Nat.{ℕ, _≤_}
 use mathlib.Core.Path.{_≡_}
 use mathlib.Core.List.{List, _++_}
 use lib.ListN.{length, drop}
 use Rattle.error.specs.Refusal.{Told, yes, no}
+use Rattle.splitter.specs.declared.FrameSplitter.{FrameSplitter}
 use Rattle.session.specs.declared.Step.{Step}
 use Rattle.session.specs.Piece.{Stage, stage, fed, stageAfter, eventText}
 
@@ -18,6 +19,10 @@ pub record Wrote (text old : List ℕ) (n : ℕ) (new : List ℕ) : Type 0 where
   pub count : n ≡ length text
   pub bytes : new ≡ text ++ drop (length text) old
   pub short : length text ≤ 128
+
+-- the splitter and the next event's number after a call, the bytes that it took, and those of its line
+abbrev pub stepOf : FrameSplitter → ℕ → ℕ → ℕ → Step
+stepOf s n taken written = record { session = record { splitter = s; number = n }; taken = taken; written = written }
 
 -- one call of the splitter at stage t on the chunk c: h, p and new are the buffers after it
 pub record Stepped (t : Stage) (c out : List ℕ) (r : Step) (h p new : List ℕ) : Type 0 where

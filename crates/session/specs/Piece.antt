@@ -8,8 +8,8 @@ use lib.ListN.{length, take, drop}
 use Rattle.error.specs.Refusal.{Told, yes, no, onYes, filled}
 use Rattle.error.specs.Result.{toldUsize}
 use Rattle.frame.specs.Rule.{parseRule}
-use Rattle.splitter.specs.Feed.{Given, feedRule, isBad}
-use Rattle.stream.specs.Stream.{Said, More, Overlong, Frame, Refused, saidOf}
+use Rattle.splitter.specs.Feed.{Given, feedRule, isBad, more, overlong, frame}
+use Rattle.stream.specs.Stream.{Said, saidOf}
 use Rattle.session.specs.declared.Session.{Session}
 use Rattle.session.specs.declared.Ran.{Ran}
 use Rattle.session.specs.Lines.{lineTo, numberTo}
@@ -36,10 +36,10 @@ eventText t c = lineTo (length (t .payload)) (t .session .number) (said t c)
 
 -- a frame's payload fills the payload buffer's front
 abbrev pub payloadTo : List ℕ → Said → List ℕ
-payloadTo p More = p
-payloadTo p Overlong = p
-payloadTo p (Frame w) = filled (onYes (λ f. f .payload) (parseRule w (length p))) p
-payloadTo p (Refused k vs) = p
+payloadTo p (yes more) = p
+payloadTo p (yes overlong) = p
+payloadTo p (yes (frame w)) = filled (onYes (λ f. f .payload) (parseRule w (length p))) p
+payloadTo p (no k vs) = p
 
 abbrev pub stageAfter : Stage → List ℕ → Stage
 stageAfter t c =

@@ -1,20 +1,39 @@
--- What the program prints: the lines of each piece that it reads, then the line at the end.
--- No contract can speak of standard output: main reads a piece, hands it to `Session::piece`, and writes its lines.
-use Prim.Native.Nat.{ℕ}
+-- What the program prints: the lines of each piece that it reads, then the line at the end. No contract can speak of standard output;
+-- here stand its calls in order, each with any reply and any buffers at exit that the contract of the function called allows.
+use Prim.Native.Nat.{ℕ, _≤_}
+use mathlib.Core.Path.{_≡_}
 use mathlib.Core.List.{List, [], _∷_, _++_}
 use lib.ListN.{length}
+use Rattle.error.specs.declared.ResultUsize.{ResultUsize}
+use Rattle.error.specs.Result.{toldUsize}
 use Rattle.splitter.specs.Feed.{new}
-use Rattle.report.specs.Line.{endText}
-use Rattle.session.specs.Piece.{Stage, stage, Work, work, behind, works}
+use Rattle.report.specs.Line.{endText, Lined}
+use Rattle.session.specs.declared.Ran.{Ran}
+use Rattle.session.specs.Piece.{Stage, stage, roomFor, pieceRule, doneBy, frontOf}
 
 -- before the first piece
 abbrev pub first : List ℕ → List ℕ → Stage
 first hold payload = stage (record { splitter = new; number = 0 }) hold payload
 
--- piece after piece
-abbrev pub allPieces : Stage → List (List ℕ) → Work
-allPieces t [] = work [] t
-allPieces t (c ∷ cs) = behind (works (length c) t c .text) (allPieces (works (length c) t c .stage) cs)
+-- Calls of `Session::piece` over pieces, from a stage to a stage, and the text that is printed. A call is lent the buffer `out`, whatever
+-- it holds, with the room that the piece c asks for. Its reply r and the buffers h, p and out′ at exit are any that its contract allows;
+-- then what the reply says is printed (`text_of`), and only the next call touches the hold and payload buffers.
+pub data Pieces : Stage → List (List ℕ) → List ℕ → Stage → Type 0 where
+  done : {t : Stage} → Pieces t [] [] t
+  piece : {t t′ : Stage} {c : List ℕ} {cs : List (List ℕ)} {text : List ℕ} (out : List ℕ) (r : Ran) (h p out′ : List ℕ)
+      → roomFor (length c) ≤ length out
+      → doneBy r h p out′ ≡ pieceRule t c out
+      → Pieces (stage (r .session) h p) cs text t′
+      → Pieces t (c ∷ cs) (frontOf (toldUsize (r .reply)) out′ ++ text) t′
 
-abbrev pub printed : Work → List ℕ
-printed w = w .text ++ endText (w .stage .session .splitter .count) (w .stage .session .splitter .skipping)
+-- The whole run, from fresh, with a hold and a payload buffer: the pieces cs, then the line at the end, in a buffer of 128 bytes or more.
+pub record Run (hold payload : List ℕ) (cs : List (List ℕ)) (printed : List ℕ) : Type 0 where
+  pub text : List ℕ
+  pub stage : Stage
+  pub pieces : Pieces (first hold payload) cs text stage
+  pub out : List ℕ
+  pub reply : ResultUsize
+  pub out′ : List ℕ
+  pub room : 128 ≤ length out
+  pub last : Lined (endText (stage .session .splitter .count) (stage .session .splitter .skipping)) out (toldUsize reply) out′
+  pub whole : printed ≡ text ++ frontOf (toldUsize reply) out′

@@ -5,12 +5,12 @@ ghost use mathlib.Core.Bool.{false};
 ghost use Prim.Native.Nat.{_*_, _≤_};
 ghost use lib.ListN.{length};
 ghost use Rattle.error.specs.Result.{toldUsize};
-ghost use Rattle.splitter.specs.Feed.{new, isBad};
-ghost use Rattle.stream.specs.Stream.{Frame};
+ghost use Rattle.error.specs.Refusal.{yes};
+ghost use Rattle.splitter.specs.Feed.{new, isBad, frame};
 ghost use Rattle.report.specs.Line.{longText};
 ghost use Rattle.session.specs.Lines.{lineTo};
 ghost use Rattle.session.specs.Piece.{stage, payloadTo, roomFor, allLines, pieceRule, frontOf, doneBy};
-ghost use Rattle.session.specs.Event.{countOf, Wrote, Stepped};
+ghost use Rattle.session.specs.Event.{countOf, Wrote, stepOf, Stepped};
 use error::ResultUsize;
 use error::WireError;
 use frame::RawFrame;
@@ -41,7 +41,8 @@ impl Session {
 
     // All of a piece: the lines of its events at the front of out.
     pub fn piece(self, hold: &mut [u8], payload: &mut [u8], chunk: &[u8], out: &mut [u8]) -> Ran
-        ensures { λ r. ⌜ doneBy r (now (hold .exit)) (now (payload .exit)) (now (out .exit)) ≡ pieceRule (stage self (now (hold .entry)) (now (payload .entry))) (now (chunk .entry)) (now (out .entry)) ⌝ }
+        ensures { λ r. ⌜ doneBy r (now (hold .exit)) (now (payload .exit)) (now (out .exit)) ≡
+            pieceRule (stage self (now (hold .entry)) (now (payload .entry))) (now (chunk .entry)) (now (out .entry)) ⌝ }
     {
         if self.splitter.is_bad(hold.len()) {
             return Ran {
@@ -97,7 +98,8 @@ fn all_lines(
     out: &mut [u8],
 ) -> Ran
     requires { ⌜ (isBad (start .splitter) (length (now hold)) ≡ false) × (128 * length (now chunk) ≤ length (now out)) ⌝ }
-    ensures { λ r. ⌜ doneBy r (now (hold .exit)) (now (payload .exit)) (now (out .exit)) ≡ allLines (stage start (now (hold .entry)) (now (payload .entry))) (now (chunk .entry)) (now (out .entry)) ⌝ }
+    ensures { λ r. ⌜ doneBy r (now (hold .exit)) (now (payload .exit)) (now (out .exit)) ≡
+        allLines (stage start (now (hold .entry)) (now (payload .entry))) (now (chunk .entry)) (now (out .entry)) ⌝ }
 {
     let mut session = start;
     let mut at = 0;
@@ -129,7 +131,8 @@ fn next_event(
     out: &mut [u8],
 ) -> Step
     requires { ⌜ 128 ≤ length (now out) ⌝ }
-    ensures { λ r. ⌜ Stepped (stage session (now (hold .entry)) (now (payload .entry))) (now (chunk .entry)) (now (out .entry)) r (now (hold .exit)) (now (payload .exit)) (now (out .exit)) ⌝ }
+    ensures { λ r. ⌜ Stepped (stage session (now (hold .entry)) (now (payload .entry))) (now (chunk .entry)) (now (out .entry))
+        r (now (hold .exit)) (now (payload .exit)) (now (out .exit)) ⌝ }
 {
     let number = session.number;
     let before = session.splitter;
@@ -154,7 +157,7 @@ fn next_event(
 }
 
 fn stepped_to(splitter: FrameSplitter, number: u64, taken: usize, written: usize) -> Step
-    ensures { λ r. ⌜ r ≡ record { session = record { splitter = splitter; number = number }; taken = taken; written = written } ⌝ }
+    ensures { λ r. ⌜ r ≡ stepOf splitter number taken written ⌝ }
 {
     Step {
         session: Session { splitter, number },
@@ -166,8 +169,8 @@ fn stepped_to(splitter: FrameSplitter, number: u64, taken: usize, written: usize
 // The line of a frame, whose payload goes to the payload buffer.
 fn put_frame(number: u64, wire: &[u8], payload: &mut [u8], out: &mut [u8]) -> usize
     requires { ⌜ 128 ≤ length (now out) ⌝ }
-    ensures line { λ r. ⌜ Wrote (lineTo (length (now (payload .entry))) number (Frame (now (wire .entry)))) (now (out .entry)) r (now (out .exit)) ⌝ }
-    ensures kept { λ r. ⌜ now (payload .exit) ≡ payloadTo (now (payload .entry)) (Frame (now (wire .entry))) ⌝ }
+    ensures line { λ r. ⌜ Wrote (lineTo (length (now (payload .entry))) number (yes (frame (now (wire .entry))))) (now (out .entry)) r (now (out .exit)) ⌝ }
+    ensures kept { λ r. ⌜ now (payload .exit) ≡ payloadTo (now (payload .entry)) (yes (frame (now (wire .entry)))) ⌝ }
 {
     let len = wire.len();
     let parsed = RawFrame::parse(wire, payload);

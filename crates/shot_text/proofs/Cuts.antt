@@ -1,5 +1,5 @@
 -- What the trims do at a byte: they stop at one of 20 hex or more, and pass one below.
--- Assumes nothing.
+-- Cut at the end and then at the start, a payload is the text that specs/Trim says, at the place that it says.
 use Prim.Native.Nat.{ℕ, suc, _-_, _≤_, _<_}
 use mathlib.Core.Path.{_≡_, sym, _∙_, ap}
 use mathlib.Core.List.{List, [], _∷_, _++_, reverse, reverse-append, reverse-reverse}

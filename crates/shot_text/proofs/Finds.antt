@@ -1,5 +1,5 @@
 -- A word that stands in a text ends within it, and its bytes are the text's there.
--- Assumes nothing.
+-- Conversely, a word whose bytes are the text's from a place on stands there.
 use Prim.Native.Nat.{ℕ, _+_, _-_, _≤_, _<_}
 use mathlib.Core.Path.{_≡_, sym, _∙_, ap}
 use mathlib.Core.Bool.{true, false}

@@ -1,5 +1,5 @@
 -- The trim, told apart from how it is made: what is cut away at either end are bytes below 20 hex, and no more is.
--- Assumes nothing.
+-- What is kept begins and ends with a byte of 20 hex or more, or is empty.
 use Prim.Native.Nat.{ℕ, _≤_, _<_}
 use mathlib.Core.Path.{_≡_, refl, sym, _∙_, ap, subst}
 use mathlib.Core.List.{List, [], _∷_, _++_, append-nil, reverse, reverse-cons, reverse-append, reverse-reverse}

@@ -19,21 +19,21 @@ impl ShotText {
         &text[start..]
     }
 
-    // Whether this is a "PROCESSED" message.
+    // Whether the word PROCESSED stands in it.
     pub fn is_processed(text: &[u8]) -> bool
         ensures { λ r. ⌜ Says (Stands (bytes "PROCESSED") (now (text .entry))) r ⌝ }
     {
         contains(text, b"PROCESSED")
     }
 
-    // Whether this is an "IDLE" message.
+    // Whether the word IDLE stands in it.
     pub fn is_idle(text: &[u8]) -> bool
         ensures { λ r. ⌜ Says (Stands (bytes "IDLE") (now (text .entry))) r ⌝ }
     {
         contains(text, b"IDLE")
     }
 
-    // Whether this is a "BALL TRIGGER" message.
+    // Whether the words BALL TRIGGER stand in it.
     pub fn is_trigger(text: &[u8]) -> bool
         ensures { λ r. ⌜ Says (Stands (bytes "BALL TRIGGER") (now (text .entry))) r ⌝ }
     {

@@ -2,3 +2,4 @@
 pub mod Fill
 pub mod Nonzero
 pub mod Sides
+pub mod One

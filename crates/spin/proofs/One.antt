@@ -1,15 +1,9 @@
--- What EF's contract allows for one payload is one reply: answer and record. Assumes nothing.
+-- Two replies that the contract of `spin` allows for one payload are equal, by the contract as the check reads it off src/ (`Post`).
+-- What is told decides the answer; the record beside it is a plain equation.
 use mathlib.Core.Path.{_≡_}
-use mathlib.Core.List.{List}
-use Prim.Native.Nat.{ℕ}
-use Rattle.error.specs.Result.{toldUnit}
-use Rattle.layout.specs.Layout.{answered, sourceOf}
-use Rattle.layout.proofs.Lengths.{one-decoded}
-use Rattle.spin.specs.Tables.{spinOf}
-use Rattle.spin.specs.declared.ResultSpinResult.{ResultSpinResult}
+use Rattle.general.proofs.One.{plain}
+use Rattle.error.proofs.Decides.{one-unit}
+use Rattle.spin.proofs.SpinResult.decode.Reads as decode
 
-pub one-spin : (p : List ℕ) {r s : ResultSpinResult}
-    → (toldUnit (r .result) ≡ answered 0xEF 138 p) × (r .«record» ≡ spinOf (sourceOf 138 p))
-    → (toldUnit (s .result) ≡ answered 0xEF 138 p) × (s .«record» ≡ spinOf (sourceOf 138 p))
-    → r ≡ s
-one-spin p a b = let e = one-decoded spinOf 0xEF 138 p a b in λ i. record { result = e .0 i; «record» = e .1 i }
+pub one-decode : (κs a r s x y : _) → decode.Post κs a r x → decode.Post κs a s y → r ≡ s
+one-decode κs a r s x y (p, e) (q, f) = λ i. record { result = one-unit {r = r .result} {s = s .result} p q i; «record» = plain e f i }

@@ -9,56 +9,57 @@ ghost use Rattle.spin.specs.Tables.{elementOf, spinOf};
 use error::ResultUnit;
 use error::WireError;
 
-// Antenna array element (7 bytes) within SpinResult.
+// What one antenna group saw in one range bin, 7 bytes of EF.
 pub struct AntennaElement {
-    // Spin estimate (RPM)
+    // its estimate of the spin in RPM
     pub spin_rpm: i16,
-    // Signal peak strength
+    // strength of the signal's peak; thousandths on the wire
     pub peak: f64,
-    // Signal-to-noise ratio
+    // signal over noise, as sent
     pub snr: i16,
 }
 
-// Spin measurement data. 1 per shot. Type 0xEF.
+// EF, sent once for a shot: the ball's spin as each method has it, and what the chosen number was checked against.
 pub struct SpinResult {
-    // Version/length byte (0x89 = 137)
+    // the first byte; the device sends 137
     pub version: u8,
-    // 5 antenna groups x 3 range bins: bin b of group g is element 3g + b
+    // bin b (of 3) of antenna group g (of 5) is element 3g + b
     pub antenna_data: [AntennaElement; 15],
-    // PM spin raw (RPM)
+    // what PM measured, in RPM
     pub pm_spin_raw: i16,
-    // PM spin final — authoritative total spin (RPM)
+    // total spin in RPM, the number to go by
     pub pm_spin_final: i16,
-    // PM spin confidence (0-100)
+    // trust in the PM number, from 0 to 100
     pub pm_spin_confidence: i16,
-    // Lift spin (RPM)
+    // spin that the lift speaks for, in RPM
     pub lift_spin: i16,
-    // Expected spin for validation (RPM)
+    // what the check expects, in RPM
     pub spin_validate_expected: i16,
-    // Low limit for validation (RPM)
+    // least spin that passes the check, in RPM
     pub spin_validate_low: i16,
-    // High limit for validation (RPM)
+    // greatest spin that passes the check, in RPM
     pub spin_validate_high: i16,
-    // Validation scaling factor
+    // factor of the check, as sent
     pub spin_validate_scaling: i16,
-    // Spin algorithm selector
+    // number of the method chosen
     pub spin_method: u8,
-    // Spin flags (raw 24-bit)
+    // 24 bits, as sent
     pub spin_flags: i32,
-    // Launch spin (RPM)
+    // spin at launch in RPM
     pub launch_spin: i16,
-    // AM spin (RPM)
+    // by AM, in RPM
     pub am_spin: i16,
-    // PM spin (RPM)
+    // by PM, in RPM
     pub pm_spin: i16,
-    // Spin axis angle (deg, /10)
+    // tilt of the axis in degrees; tenths on the wire
     pub spin_axis: f64,
-    // AOD spin (RPM)
+    // by AOD, in RPM
     pub aod_spin: i16,
-    // PLL spin (RPM)
+    // by PLL, in RPM
     pub pll_spin: i16,
 }
 
+// The answer, and the record beside it.
 pub struct ResultSpinResult {
     pub result: ResultUnit,
     pub record: SpinResult,
@@ -72,11 +73,7 @@ impl SpinResult {
         let got = payload.len();
         if got < 138 {
             return ResultSpinResult {
-                result: ResultUnit::Err(WireError::PayloadTooShort {
-                    kind: 0xEF,
-                    need: 138,
-                    got,
-                }),
+                result: ResultUnit::Err(WireError::payload_too_short(0xEF, 138, got)),
                 record: zero_spin(),
             };
         }

@@ -1,5 +1,5 @@
 -- Laws of specs/Feed that the proofs cite: a frame that is kept, the cases of `ends`, `goesOn` and `feedRule`.
--- Assumes nothing.
+-- And one for callers: no call gives a state that the next would refuse (`good-after`).
 use mathlib.Core.Path.{_≡_, refl, sym, ap, _∙_}
 use mathlib.Core.Bool.{Bool, true, false, cond, not, _&&_, _||_}
 use mathlib.Core.List.{List, []}
@@ -15,7 +15,7 @@ use Rattle.search.specs.First.{firstFrom}
 use Rattle.splitter.specs.declared.FrameSplitter.{FrameSplitter}
 use Rattle.splitter.specs.declared.Fed.{Fed}
 use Rattle.splitter.specs.declared.Event.the-variants.{More, Frame, Overlong}
-use Rattle.splitter.specs.Feed.{given, new, holding, marked, isBad, isKept, startIn, part, laid, ends, goesOn, runs, feedRule, lengthWith, givenBy}
+use Rattle.splitter.specs.Feed.{given, new, holding, marked, isBad, isOpen, isKept, startIn, part, laid, ends, goesOn, runs, feedRule, lengthWith, givenBy}
 
 -- a whole list that is pasted
 pub paste-all : (d : List ℕ) (at : ℕ) (s : List ℕ) (i : ℕ) → i ≡ length s → paste d at s i ≡ laid d at s
@@ -100,3 +100,21 @@ module _ (s : FrameSplitter) (h c : List ℕ) where
     pub feed-goes-on : length c ≤ j → goesOn s h c i (length c) ≡ feedRule s h c
     unfolding runs
     feed-goes-on l = rw (← at-start, ← ej, le-ltb _ _ l)
+
+-- a state that is not refused gives one that is not refused
+pub good-after : (s : FrameSplitter) (h c : List ℕ) → isBad s (length h) ≡ false → isBad (feedRule s h c .state) (length h) ≡ false
+unfolding feedRule runs ends goesOn
+good-after s h c good =
+    let i = startIn s c in
+    let j = firstFrom 0xF1 i c in
+    let none : ltb (length h) 0 ≡ false = le-ltb (length h) 0 (omega arith) in
+    rw good
+    (by-test (ltb j (length c))
+    (λ l.
+    by-test (isKept s (length h) (j + 1 - i))
+    (λ k. by-test (isOpen s) (λ o. rw (l, k, o, none)) (λ o. rw (l, k, o, none)))
+    (λ k. rw (l, k, none)))
+    (λ l.
+    by-test (isKept s (length h) (length c - i))
+    (λ k. rw (l, k, le-ltb _ _ (kept-is s (length h) (length c - i) k .1)))
+    (λ k. rw (l, k, none))))

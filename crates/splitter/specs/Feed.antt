@@ -15,11 +15,17 @@ use Rattle.splitter.specs.declared.Event.the-variants.{More, Frame, Over
 
 -- ---- answers
 
-pub data Answer : Type 0 where
-  more overlong : Answer
-  frame : Place → Answer
+-- what a call answers; a frame is told as an F: by its place, or by its bytes
+pub data Answer (F : Type 0) : Type 0 where
+  more overlong : Answer F
+  frame : F → Answer F
 
-abbrev pub toldEvent : Event → Told Answer
+abbrev pub onFrame : {F G : Type 0} → (F → G) → Answer F → Answer G
+onFrame f more = more
+onFrame f overlong = overlong
+onFrame f (frame p) = frame (f p)
+
+abbrev pub toldEvent : Event → Told (Answer Place)
 toldEvent More = yes more
 toldEvent (Frame p) = yes (frame p)
 toldEvent Overlong = yes overlong
@@ -27,12 +33,12 @@ toldEvent (Err e) = refused e
 
 -- all that a call fixes: the answer, the bytes taken, the state after it, and the hold buffer after it
 pub record Given : Type 0 where
-  pub answer : Told Answer
+  pub answer : Told (Answer Place)
   pub taken : ℕ
   pub state : FrameSplitter
   pub hold : List ℕ
 
-abbrev pub given : Told Answer → ℕ → FrameSplitter → List ℕ → Given
+abbrev pub given : Told (Answer Place) → ℕ → FrameSplitter → List ℕ → Given
 given a n s h = record { answer = a; taken = n; state = s; hold = h }
 
 abbrev pub givenBy : Fed → List ℕ → Given

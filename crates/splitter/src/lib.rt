@@ -4,7 +4,8 @@ ghost use mathlib.Core.Path.{_≡_};
 ghost use mathlib.Core.Bool.{not};
 ghost use Prim.Native.Nat.{_+_, _≤_};
 ghost use lib.ListN.{length};
-ghost use Rattle.splitter.specs.Feed.{new, isBad, isKept, startIn, laid, ends, goesOn, feedRule, givenBy};
+ghost use Rattle.splitter.specs.declared.Event.the-variants.{More};
+ghost use Rattle.splitter.specs.Feed.{new, isBad, isOpen, isKept, startIn, laid, ends, goesOn, feedRule, givenBy};
 use error::WireError;
 use marks::END;
 use marks::START;
@@ -87,13 +88,20 @@ impl FrameSplitter {
 fn start(s: FrameSplitter, chunk: &[u8]) -> usize
     ensures { λ r. ⌜ (r ≡ startIn s (now (chunk .entry))) × (r ≤ length (now (chunk .entry))) ⌝ }
 {
-    if s.skipping {
-        return 0;
-    }
-    if s.count != 0 {
+    if is_open(s) {
         return 0;
     }
     find(chunk, 0, START)
+}
+
+// Whether a frame is open: some of its bytes are held, or were lost.
+fn is_open(s: FrameSplitter) -> bool
+    ensures { λ r. ⌜ r ≡ isOpen s ⌝ }
+{
+    if s.skipping {
+        return true;
+    }
+    s.count != 0
 }
 
 // Whether the open frame with added more bytes is longer than the hold buffer, or has been.
@@ -160,23 +168,20 @@ fn stays(s: FrameSplitter, hold: &mut [u8], chunk: &[u8], from: usize) -> Fed
     let n = chunk.len();
     let added = n - from;
     if lost(s, hold.len(), added) {
-        return Fed {
-            event: Event::More,
-            taken: n,
-            splitter: FrameSplitter {
-                count: 0,
-                skipping: true,
-            },
-        };
+        return went_on(n, 0, true);
     }
     lay(hold, count, &chunk[from..n]);
+    went_on(n, count + added, false)
+}
+
+// Before a frame's end the answer is More.
+fn went_on(taken: usize, count: usize, skipping: bool) -> Fed
+    ensures { λ r. ⌜ r ≡ record { event = More; taken = taken; splitter = record { count = count; skipping = skipping } } ⌝ }
+{
     Fed {
         event: Event::More,
-        taken: n,
-        splitter: FrameSplitter {
-            count: count + added,
-            skipping: false,
-        },
+        taken,
+        splitter: FrameSplitter { count, skipping },
     }
 }
 

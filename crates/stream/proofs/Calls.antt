@@ -3,7 +3,7 @@
 use mathlib.Core.Path.{_≡_, refl, sym, ap, _∙_}
 use mathlib.Core.Bool.{true, false}
 use mathlib.Core.List.{List, [], _∷_, _++_, append-assoc}
-use Prim.Native.Nat.{ℕ, suc, _+_, _-_, _≤_, _<_, zero-le, suc-le-suc}
+use Prim.Native.Nat.{ℕ, suc, _+_, _-_, _≤_, _<_, zero-le}
 use native.Mathlib.Omega.{arith}
 use native.Mathlib.Nat.{not-suc-le-zero, zero-add}
 use lib.Dec.{eqb, leb}
@@ -14,8 +14,10 @@ use Rattle.general.proofs.Cases.{by-test, by-lt}
 use Rattle.splitter.specs.declared.FrameSplitter.{FrameSplitter}
 use Rattle.search.specs.First.{indexOf}
 use Rattle.search.proofs.First.{found, index-le}
-use Rattle.splitter.specs.Feed.{Given, fresh, isBad, startIn, part, laid, ends, goesOn, feedRule, lengthWith}
-use Rattle.stream.specs.Stream.{Said, More, saidOf, atLast, answerTo}
+use Rattle.splitter.specs.Feed.{Given, fresh, isBad, startIn, part, laid, ends, goesOn, feedRule, lengthWith, more}
+use Rattle.error.specs.Refusal.{yes}
+use Rattle.stream.specs.Stream.{Said, saidOf, answerTo}
+use Rattle.stream.specs.Heard.{atLast}
 use Rattle.splitter.proofs.Laws.{feed-ends, feed-goes-on}
 use Rattle.stream.proofs.Line.{opened, hear, silence, hear-append, opened-append, at-last-add, silent, dropped, goes-on, closes, opens-goes-on, opens-closes}
 
@@ -86,7 +88,7 @@ module _ (H : ℕ) where
       let n : length c ≡ i + suc (length r) = simp length-drop (omega arith) in
       let q = opens-goes-on H r (simp length-drop (omega (arith, rw f at l))) in
       rw f (record {
-        heard = ap (hear H []) e ∙ hear-append H [] (take i c) (0xF0 ∷ r) ∙ rw (d .0, d .1, q .0, n) (replicate-append-replicate i (suc (length r)) More);
+        heard = ap (hear H []) e ∙ hear-append H [] (take i c) (0xF0 ∷ r) ∙ rw (d .0, d .1, q .0, n) (replicate-append-replicate i (suc (length r)) (yes more));
         still = ap (opened []) e ∙ opened-append [] (take i c) (0xF0 ∷ r) ∙ rw (d .1, q .1);
       }))
       (λ k.
@@ -148,7 +150,7 @@ module _ (s : FrameSplitter) (h c w : List ℕ) (i e : ℕ) (lo : i ≤ e) (hi :
       let q : length h < length (w ++ part c i e) = simp length-append (omega arith) in
       rw (m, lt-leb _ _ q) (record { says = refl; takes = refl; stands = stands-fresh s h; size = refl })
 
-  went-on : Stands s h w → Does h c (goesOn s h c i e) More e (w ++ part c i e)
+  went-on : Stands s h w → Does h c (goesOn s h c i e) (yes more) e (w ++ part c i e)
   unfolding goesOn
   went-on (fits l n m k) =
       by-test (leb (lengthWith s (e - i)) (length h))
@@ -209,6 +211,6 @@ one-call {s} {h} w c k =
     let lo : i ≤ length c = from-le w c in
     let p : part c i (length c) ≡ drop i c = take-all (length c - i) (drop i c) (simp length-drop (omega arith)) in
     let all : take (length c) c ≡ c = take-length c in
-    let d : Does h c (goesOn s h c i (length c)) More (length c) (w ++ drop i c) = rw p at (went-on s h c w i (length c) lo (omega arith) k) in
+    let d : Does h c (goesOn s h c i (length c)) (yes more) (length c) (w ++ drop i c) = rw p at (went-on s h c w i (length c) lo (omega arith) k) in
     rw (← feed-goes-on s h c i (i + x) good start refl l)
-    (agree h c w (goesOn s h c i (length c)) More (length c) (w ++ drop i c) d (omega arith) (rw all (y .heard ∙ sym (silent (length c)))) (rw all (y .still)) (λ z. z)))
+    (agree h c w (goesOn s h c i (length c)) (yes more) (length c) (w ++ drop i c) d (omega arith) (rw all (y .heard ∙ sym (silent (length c)))) (rw all (y .still)) (λ z. z)))

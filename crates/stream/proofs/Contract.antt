@@ -12,7 +12,7 @@ use Rattle.error.specs.Refusal.{yes}
 use Rattle.splitter.specs.declared.FrameSplitter.{FrameSplitter}
 use Rattle.splitter.specs.declared.Fed.{Fed}
 use Rattle.splitter.specs.Feed.{frame, toldEvent, feedRule}
-use Rattle.stream.specs.Stream.{Frame, saidOf, Call, call, Calls, next}
+use Rattle.stream.specs.Stream.{saidOf, Call, call, Calls, next}
 use Rattle.splitter.proofs.FrameSplitter.feed.Kinds as feed-kinds
 use Rattle.splitter.proofs.FrameSplitter.feed.Reads as feed
 use Rattle.view.proofs.view.Kinds as view-kinds
@@ -27,5 +27,5 @@ feed-calls κs a r x p {b = b} n e c = next {b = b} n r (x .1 .0 .now) (p ∙ ap
 
 -- A call of `view` with the chunk, the hold buffer and the place that was answered shows the bytes that the trace has.
 pub view-shows : (κs : Lfts 1) (a : Dens κs view-kinds.ps) (r : RefT (List ℕ)) (x : AtExit (endedOf 1 view-kinds.ps view-kinds.r) κs) → view.Post κs a r x
-    → saidOf (a .0 .now) (a .1 .0 .now) (yes (frame (a .1 .1 .0))) ≡ Frame (r .now)
-view-shows κs a r x p = ap Frame (sym (p .0))
+    → saidOf (a .0 .now) (a .1 .0 .now) (yes (frame (a .1 .1 .0))) ≡ yes (frame (r .now))
+view-shows κs a r x p = ap (λ (w : List ℕ). yes (frame w)) (sym (p .0))

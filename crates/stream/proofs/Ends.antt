@@ -17,6 +17,7 @@ use Rattle.general.proofs.Cases.{by-test}
 use Rattle.error.proofs.Decides.{there}
 use Rattle.splitter.specs.declared.FrameSplitter.{FrameSplitter}
 use Rattle.splitter.specs.declared.Fed.{Fed}
+use Rattle.splitter.specs.declared.Place.{Place}
 use Rattle.splitter.specs.declared.Event.the-variants.{Err}
 use Rattle.search.specs.First.{indexOf, firstFrom}
 use Rattle.splitter.specs.Feed.{Given, Answer, given, more, toldEvent, isBad, isOpen, isKept, startIn, laid, ends, goesOn, runs, feedRule, givenBy}
@@ -72,7 +73,7 @@ fed-within f h′ s h c e =
 never : {A : Type 0} (n : ℕ) (vs : List ℕ) (a : A) → no n vs ≡ yes a → ⊥
 never n vs a e = let z : _≡_ {A = ℕ} 0 1 = cc in omega arith
 
-pub fed-moves : (f : Fed) (a : Answer) (h′ : List ℕ) (s : FrameSplitter) (h c : List ℕ) → givenBy f h′ ≡ feedRule s h c → toldEvent (f .event) ≡ yes a → 0 < length c → 0 < f .taken
+pub fed-moves : (f : Fed) (a : Answer Place) (h′ : List ℕ) (s : FrameSplitter) (h c : List ℕ) → givenBy f h′ ≡ feedRule s h c → toldEvent (f .event) ≡ yes a → 0 < length c → 0 < f .taken
 fed-moves f a h′ s h c e y p =
     let t : f .taken ≡ feedRule s h c .taken = ap (λ (g : Given). g .taken) e in
     let z : feedRule s h c .answer ≡ yes a = sym (ap (λ (g : Given). g .answer) e) ∙ y in
@@ -117,7 +118,7 @@ replied s h c =
 pub allowed : (s : FrameSplitter) (h c : List ℕ) → givenBy (fedOf (feedRule s h c)) (feedRule s h c .hold) ≡ feedRule s h c
 allowed s h c =
     let g = feedRule s h c in
-    ap (λ (a : Told Answer). given a (g .taken) (g .state) (g .hold)) (replied s h c)
+    ap (λ (a : Told (Answer Place)). given a (g .taken) (g .state) (g .hold)) (replied s h c)
 
 -- ---- chunks
 

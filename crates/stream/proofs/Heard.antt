@@ -5,7 +5,10 @@ use mathlib.Core.List.{List, [], _∷_, _++_, append-assoc}
 use Prim.Native.Nat.{ℕ, zero, suc, _+_, _<_}
 use native.Mathlib.Omega.{arith}
 use lib.ListN.{length, length-append}
-use Rattle.stream.specs.Stream.{Said, More, Call, call, takenBy, unlessMore, answers, atLast, heard}
+use Rattle.splitter.specs.Feed.{more}
+use Rattle.error.specs.Refusal.{yes}
+use Rattle.stream.specs.Stream.{Said, Call, call, takenBy, unlessMore, answers}
+use Rattle.stream.specs.Heard.{atLast, heard}
 use Rattle.stream.proofs.Line.{silence}
 use Rattle.stream.proofs.Stream.{Plain, spoken}
 
@@ -13,9 +16,9 @@ use Rattle.stream.proofs.Stream.{Plain, spoken}
 data Where (m : ℕ) (s : Said) (u x : List Said) (a : Said) (y : List Said) : Type 0 where
   here : s ≡ a → u ≡ y → length x ≡ m → spoken x ≡ [] → Where m s u x a y
   before : (x′ : List Said) → length x ≡ suc m + length x′ → spoken x ≡ unlessMore s ++ spoken x′ → u ≡ x′ ++ (a ∷ y) → Where m s u x a y
-  silent : a ≡ More → Where m s u x a y
+  silent : a ≡ yes more → Where m s u x a y
 
-later : (m : ℕ) (s : Said) (u : List Said) (z : Said) (x : List Said) (a : Said) (y : List Said) → More ≡ z → Where m s u x a y → Where (suc m) s u (z ∷ x) a y
+later : (m : ℕ) (s : Said) (u : List Said) (z : Said) (x : List Said) (a : Said) (y : List Said) → yes more ≡ z → Where m s u x a y → Where (suc m) s u (z ∷ x) a y
 later m s u z x a y e (here p q n k) = here p q (ap suc n) (rw (← e) k)
 later m s u z x a y e (before x′ n k r) = before x′ (omega arith) (rw (← e) k) r
 later m s u z x a y e (silent p) = silent p
@@ -25,7 +28,7 @@ find zero s u [] a y e = here (cc) (cc) refl refl
 find zero s u (z ∷ x) a y e =
     let p : s ≡ z = cc in
     before x (omega arith) (rw p) (cc)
-find (suc m) s u [] a y e = silent (let p : More ≡ a = cc in sym p)
+find (suc m) s u [] a y e = silent (let p : yes more ≡ a = cc in sym p)
 find (suc m) s u (z ∷ x) a y e = later m s u z x a y (cc) (find m s u x a y (cc))
 
 -- the call that a is the answer of: those before it say what is heard in x; it and those before it take one byte for each of x, and one more
@@ -55,21 +58,21 @@ one-more l s t x x′ a y n k r =
       plain = r .plain;
     }
 
-at-call : (b : ℕ) (l : List ℕ) (s : Said) (t : List Call) (x : List Said) (a : Said) (y : List Said) → Plain t → (a ≡ More → ⊥)
+at-call : (b : ℕ) (l : List ℕ) (s : Said) (t : List Call) (x : List Said) (a : Said) (y : List Said) → Plain t → (a ≡ yes more → ⊥)
     → ((x′ : List Said) → heard t ≡ x′ ++ (a ∷ y) → Split x′ a y t) → Where (length l) s (heard t) x a y → Split x a y (call (b ∷ l) s ∷ t)
 at-call b l s t x a y p n again (here e u m k) =
     record { before = []; took = b ∷ l; after = t; calls = rw e; said = sym k; size = ap suc (sym m); some = omega arith; rest = u; plain = p }
 at-call b l s t x a y p n again (before x′ m k u) = one-more (b ∷ l) s t x x′ a y m k (again x′ u)
 at-call b l s t x a y p n again (silent e) = absurd (n e)
 
-at-first : (l : List ℕ) (s : Said) (t : List Call) (x : List Said) (a : Said) (y : List Said) → (l ≡ [] → s ≡ More) → Plain t → (a ≡ More → ⊥)
+at-first : (l : List ℕ) (s : Said) (t : List Call) (x : List Said) (a : Said) (y : List Said) → (l ≡ [] → s ≡ yes more) → Plain t → (a ≡ yes more → ⊥)
     → ((x′ : List Said) → heard t ≡ x′ ++ (a ∷ y) → Split x′ a y t) → atLast (length l) s ++ heard t ≡ x ++ (a ∷ y) → Split x a y (call l s ∷ t)
 at-first [] s t x a y q p n again e =
-    let m : s ≡ More = q refl in
+    let m : s ≡ yes more = q refl in
     one-more [] s t x x a y (omega arith) (rw m) (again x (rw m at e))
 at-first (b ∷ l) s t x a y q p n again e =
     at-call b l s t x a y p n again (find (length l) s (heard t) x a y (sym (append-assoc (silence (length l)) (s ∷ []) (heard t)) ∙ e))
 
-pub split : (t : List Call) → Plain t → (x : List Said) (a : Said) (y : List Said) → (a ≡ More → ⊥) → heard t ≡ x ++ (a ∷ y) → Split x a y t
+pub split : (t : List Call) → Plain t → (x : List Said) (a : Said) (y : List Said) → (a ≡ yes more → ⊥) → heard t ≡ x ++ (a ∷ y) → Split x a y t
 split [] p x a y n e = absurd (omega (arith, ap length e, length-append x (a ∷ y)))
 split (c ∷ t) p x a y n e = at-first (c .took) (c .said) t x a y (p .0) (p .1) n (λ x′ e′. split t (p .1) x′ a y n e′) e

@@ -10,7 +10,10 @@ use lib.Dec.{eqb}
 use lib.ListN.{length, take, replicate, replicate-append-replicate}
 use Rattle.general.proofs.Cases.{by-test}
 use Rattle.search.specs.First.{indexOf}
-use Rattle.stream.specs.Stream.{Said, More, atLast, answerTo}
+use Rattle.splitter.specs.Feed.{more}
+use Rattle.error.specs.Refusal.{yes}
+use Rattle.stream.specs.Stream.{Said, answerTo}
+use Rattle.stream.specs.Heard.{atLast}
 
 -- the open frame after one more byte
 abbrev pub after : List ℕ → ℕ → List ℕ
@@ -19,8 +22,8 @@ after (x ∷ w) b = cond (eqb b 0xF1) [] (x ∷ (w ++ (b ∷ [])))
 
 -- what is said at that byte
 abbrev pub saidAt : ℕ → List ℕ → ℕ → Said
-saidAt H [] b = More
-saidAt H (x ∷ w) b = cond (eqb b 0xF1) (answerTo H (x ∷ (w ++ (b ∷ [])))) More
+saidAt H [] b = yes more
+saidAt H (x ∷ w) b = cond (eqb b 0xF1) (answerTo H (x ∷ (w ++ (b ∷ [])))) (yes more)
 
 abbrev pub opened : List ℕ → List ℕ → List ℕ
 opened w [] = w
@@ -31,7 +34,7 @@ hear H w [] = []
 hear H w (b ∷ c) = saidAt H w b ∷ hear H (after w b) c
 
 abbrev pub silence : ℕ → List Said
-silence n = replicate n More
+silence n = replicate n (yes more)
 
 -- ---- stretches of bytes
 
@@ -48,12 +51,12 @@ module _ (H : ℕ) where
   hear-length w [] = refl
   hear-length w (b ∷ x) = ap suc (hear-length (after w b) x)
 
-pub silent : (n : ℕ) → atLast n More ≡ silence n
+pub silent : (n : ℕ) → atLast n (yes more) ≡ silence n
 silent zero = refl
-silent (suc n) = replicate-append-replicate n 1 More ∙ rw (add-one n)
+silent (suc n) = replicate-append-replicate n 1 (yes more) ∙ rw (add-one n)
 
 pub at-last-add : (i n : ℕ) (a : Said) → atLast (i + suc n) a ≡ silence i ++ atLast (suc n) a
-at-last-add i n a = rw (add-suc i n, ← replicate-append-replicate i n More, append-assoc)
+at-last-add i n a = rw (add-suc i n, ← replicate-append-replicate {A = Said} i n (yes more), append-assoc)
 
 -- ---- one frame
 

@@ -17,7 +17,8 @@ use Rattle.search.specs.First.{indexOf}
 use Rattle.search.proofs.First.{found}
 use Rattle.splitter.specs.Feed.{new}
 use Rattle.stream.specs.Rust.{Rust, left, push, turn, turns, rustFeed, rustFrames}
-use Rattle.stream.specs.Stream.{Call, Calls, joined, unlessMore, answers, atLast, answerTo}
+use Rattle.stream.specs.Stream.{Call, Calls, joined, unlessMore, answers, answerTo}
+use Rattle.stream.specs.Heard.{atLast}
 use Rattle.stream.proofs.Line.{after, opened, hear, hear-append, opened-append}
 use Rattle.stream.proofs.Calls.{stands-fresh, Closed, Unclosed, closes-at, goes-at}
 use Rattle.stream.proofs.Stream.{follows, spoken, spoken-append, spoken-silence, spoken-last, answers-heard}

@@ -10,8 +10,10 @@ use lib.ListN.{length, take, drop, length-take, take-append-drop}
 use lib.Seq.{take-take, length-take-le}
 use borrow.Author.Tests.{le-leb, lt-leb}
 use Rattle.splitter.specs.declared.FrameSplitter.{FrameSplitter}
-use Rattle.splitter.specs.Feed.{new, toldEvent, givenBy}
-use Rattle.stream.specs.Stream.{Said, More, Overlong, Frame, Refused, saidOf, Call, Calls, done, next, takenBy, unlessMore, answers, atLast, heard, Alike}
+use Rattle.splitter.specs.Feed.{new, toldEvent, givenBy, more, overlong, frame}
+use Rattle.error.specs.Refusal.{yes, no}
+use Rattle.stream.specs.Stream.{Said, saidOf, Call, Calls, done, next, takenBy, unlessMore, answers}
+use Rattle.stream.specs.Heard.{atLast, heard, Alike}
 use Rattle.stream.proofs.Line.{opened, hear, silence, hear-append, opened-append}
 use Rattle.stream.proofs.Calls.{Stands, fits, long, stands-fresh, Agrees, one-call}
 
@@ -20,13 +22,13 @@ use Rattle.stream.proofs.Calls.{Stands, fits, long, stands-fresh, Agree
 -- a call that takes nothing says More
 abbrev pub Plain : List Call → Type 0
 Plain [] = Unit
-Plain (c ∷ t) = (c .took ≡ [] → c .said ≡ More) × Plain t
+Plain (c ∷ t) = (c .took ≡ [] → c .said ≡ yes more) × Plain t
 
-only-more : (a : Said) → unlessMore a ≡ [] → a ≡ More
-only-more More e = refl
-only-more Overlong e = cc
-only-more (Frame w) e = cc
-only-more (Refused n vs) e = cc
+only-more : (a : Said) → unlessMore a ≡ [] → a ≡ yes more
+only-more (yes more) e = refl
+only-more (yes overlong) e = cc
+only-more (yes (frame w)) e = cc
+only-more (no n vs) e = cc
 
 pub record Follows (h w b : List ℕ) (t : List Call) (s : FrameSplitter) (h′ : List ℕ) : Type 0 where
   pub hears : heard t ≡ hear (length h) w b
@@ -86,10 +88,10 @@ spoken-silence zero = refl
 spoken-silence (suc n) = spoken-silence n
 
 pub spoken-last : (n : ℕ) (a : Said) → spoken (atLast n a) ≡ unlessMore a
-spoken-last zero More = refl
-spoken-last zero Overlong = refl
-spoken-last zero (Frame w) = refl
-spoken-last zero (Refused k vs) = refl
+spoken-last zero (yes more) = refl
+spoken-last zero (yes overlong) = refl
+spoken-last zero (yes (frame w)) = refl
+spoken-last zero (no k vs) = refl
 spoken-last (suc n) a = rw (spoken-append (silence n) (a ∷ []), spoken-silence n, append-nil)
 
 pub answers-heard : (t : List Call) → answers t ≡ spoken (heard t)

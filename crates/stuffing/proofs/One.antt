@@ -1,14 +1,28 @@
--- Two replies that `tally`'s contract allows for one string are equal; those of the other functions are equations of the reply itself.
--- Assumes nothing.
-use mathlib.Core.Path.{_≡_, sym, _∙_}
-use mathlib.Core.List.{List}
-use Prim.Native.Nat.{ℕ, _-_, _%_}
-use lib.ListN.{length}
-use Rattle.stuffing.specs.Stuff.{stuff, sum16}
-use Rattle.stuffing.specs.declared.Stuffed.{Stuffed}
+-- Two replies that a contract of `stuffing` allows for one input are equal, by the contract as the check reads it off src/ (`Post`).
+-- Each is a plain equation; that of `tally` is one for each of its two fields.
+use mathlib.Core.Path.{_≡_}
+use Rattle.general.proofs.One.{plain}
+use Rattle.stuffing.proofs.select.Reads as select
+use Rattle.stuffing.proofs.escape_code.Reads as escape-code
+use Rattle.stuffing.proofs.unescape.Reads as unescape
+use Rattle.stuffing.proofs.wide.Reads as wide
+use Rattle.stuffing.proofs.checksum.Reads as checksum
+use Rattle.stuffing.proofs.tally.Reads as tally
 
-pub one-tally : (s : List ℕ) {a b : Stuffed}
-    → a .more ≡ (length (stuff s) - length s) % 65536 → a .sum ≡ sum16 (stuff s)
-    → b .more ≡ (length (stuff s) - length s) % 65536 → b .sum ≡ sum16 (stuff s)
-    → a ≡ b
-one-tally s p q p′ q′ = λ i. record { more = (p ∙ sym p′) i; sum = (q ∙ sym q′) i }
+pub one-select : (κs a r s x y : _) → select.Post κs a r x → select.Post κs a s y → r ≡ s
+one-select κs a r s x y = plain
+
+pub one-escape-code : (κs a r s x y : _) → escape-code.Post κs a r x → escape-code.Post κs a s y → r ≡ s
+one-escape-code κs a r s x y = plain
+
+pub one-unescape : (κs a r s x y : _) → unescape.Post κs a r x → unescape.Post κs a s y → r ≡ s
+one-unescape κs a r s x y = plain
+
+pub one-wide : (κs a r s x y : _) → wide.Post κs a r x → wide.Post κs a s y → r ≡ s
+one-wide κs a r s x y = plain
+
+pub one-checksum : (κs a r s x y : _) → checksum.Post κs a r x → checksum.Post κs a s y → r ≡ s
+one-checksum κs a r s x y = plain
+
+pub one-tally : (κs a r s x y : _) → tally.Post κs a r x → tally.Post κs a s y → r ≡ s
+one-tally κs a r s x y p q = λ i. record { more = plain (p .0) (q .0) i; sum = plain (p .1) (q .1) i }

@@ -9,46 +9,47 @@ ghost use Rattle.tracking.specs.Table.{trackingOf};
 use error::ResultUnit;
 use error::WireError;
 
-// Radar tracking metadata. 5 per shot in 3 phases. Type 0xE9.
+// E9, sent five times for a shot, in three phases: where the radar stands in its samples.
 pub struct TrackingStatus {
-    // State/flags byte
+    // bits of the state, as sent
     pub state: u8,
-    // Flags byte
+    // more bits, as sent
     pub flags: u8,
-    // Pre-trigger buffer start (sample index in 2^18 circular buffer)
+    // first sample kept from before the trigger, in a ring of 2^18
     pub pre_trig_buf_start: u32,
-    // Club impact index (0xFFFFFF if not yet found)
+    // sample of the club's impact; 0xFFFFFF as long as none is known
     pub club_impact_idx: u32,
-    // Trigger index (sample index)
+    // sample of the trigger
     pub trigger_idx: u32,
-    // Radar calibration constant 1
+    // the radar's calibration, as sent
     pub radar_cal1: u32,
-    // Radar calibration constant 2 (= radar_cal1)
+    // the same number again
     pub radar_cal2: u32,
-    // AVR radar calibration value
+    // the AVR's own calibration, as sent
     pub radar_cal_avr: u16,
-    // Processing iteration (0-2)
+    // round of processing, from 0 to 2
     pub processing_iteration: u8,
-    // Result quality
+    // grade of the result, as sent
     pub result_quality: u8,
-    // Detection subtype
+    // kind of detection, as sent
     pub detection_subtype: u8,
-    // PRC tracking point count (validated 7/7 shots)
+    // how many points of EC were tracked
     pub prc_tracking_count: u8,
-    // Radar measurement
+    // no unit known
     pub radar_measurement: u16,
-    // Trigger flags
+    // bits of the trigger, as sent
     pub trigger_flags: u8,
-    // Event counter
+    // events so far
     pub event_counter: u16,
-    // Radar baseline (signed)
+    // the level measured from; it may be negative
     pub radar_baseline: i32,
-    // Post-tracking measurements
+    // three measures after tracking, no unit known; each may be negative
     pub track_measure: [i32; 3],
-    // Track measure 4
+    // a fourth, never negative
     pub track_measure4: u16,
 }
 
+// The answer, and the record beside it.
 pub struct ResultTrackingStatus {
     pub result: ResultUnit,
     pub record: TrackingStatus,
@@ -62,11 +63,7 @@ impl TrackingStatus {
         let got = payload.len();
         if got < 82 {
             return ResultTrackingStatus {
-                result: ResultUnit::Err(WireError::PayloadTooShort {
-                    kind: 0xE9,
-                    need: 82,
-                    got,
-                }),
+                result: ResultUnit::Err(WireError::payload_too_short(0xE9, 82, got)),
                 record: zero_tracking(),
             };
         }

@@ -1,14 +1,8 @@
--- Two replies that `unstuffed`'s contract allows for one string are equal.
--- Assumes nothing.
+-- Two replies that `unstuffed`'s contract allows for one string are equal, by the contract as the check reads it off src/ (`Post`).
+-- What a reply tells decides it.
 use mathlib.Core.Path.{_≡_}
-use mathlib.Core.List.{List}
-use Prim.Native.Nat.{ℕ}
-use lib.ListN.{length}
-use Rattle.error.specs.Refusal.{onYes}
-use Rattle.error.specs.Result.{toldUsize}
-use Rattle.error.specs.declared.ResultUsize.{ResultUsize}
 use Rattle.error.proofs.Decides.{one-usize}
-use Rattle.unstuffing.specs.Unstuff.{unstuff}
+use Rattle.unstuffing.proofs.unstuffed.Reads as unstuffed
 
-pub one-count : (s : List ℕ) {a b : ResultUsize} → toldUsize a ≡ onYes length (unstuff 0 s) → toldUsize b ≡ onYes length (unstuff 0 s) → a ≡ b
-one-count s = one-usize
+pub one-unstuffed : (κs a r s x y : _) → unstuffed.Post κs a r x → unstuffed.Post κs a s y → r ≡ s
+one-unstuffed κs a r s x y = one-usize

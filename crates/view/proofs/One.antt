@@ -1,13 +1,8 @@
--- Two parts that the contract of `view` allows for one place have the same bytes and lie at the same address.
--- Assumes nothing.
-use mathlib.Core.Path.{_≡_, sym, _∙_}
-use mathlib.Core.List.{List}
-use Prim.Native.Nat.{ℕ}
-use denote.Ref.{RefT}
-use Rattle.splitter.specs.declared.Place.{Place}
-use Rattle.view.specs.View.{viewRule, viewAt}
+-- Two parts that the contract of `view` allows for one place have the same bytes and lie at the same address, by the contract as the
+-- check reads it off src/ (`Post`). A returned reference also has a ghost name, of which no contract speaks.
+use mathlib.Core.Path.{_≡_}
+use Rattle.general.proofs.One.{plain}
+use Rattle.view.proofs.view.Reads as view
 
--- of a returned part: its bytes, and where it lies
-pub one-view : (r r′ c h : RefT (List ℕ)) (p : Place) → r .now ≡ viewRule (c .now) (h .now) p → r .ptr ≡ viewAt c h p
-    → r′ .now ≡ viewRule (c .now) (h .now) p → r′ .ptr ≡ viewAt c h p → (r .now ≡ r′ .now) × (r .ptr ≡ r′ .ptr)
-one-view r r′ c h p a b a′ b′ = (a ∙ sym a′, b ∙ sym b′)
+pub one-view : (κs a r s x y : _) → view.Post κs a r x → view.Post κs a s y → (r .now ≡ s .now) × (r .ptr ≡ s .ptr)
+one-view κs a r s x y p q = (plain (p .0) (q .0), plain (p .1) (q .1))

@@ -1,5 +1,5 @@
 -- `byte` meets its contract: the number fits.
--- Assumes nothing.
+-- A byte is below the half of 32 bits.
 use borrow.Author.Needs.{needs}
 use native.Mathlib.Omega.{arith}
 use mir.Syntax.{w32}

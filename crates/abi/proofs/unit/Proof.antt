@@ -1,4 +1,5 @@
 -- `unit` meets its contract: what it is given is what it tells.
+-- Nothing is stored for a value, so a refusal is all that alters the words.
 use borrow.Author.Needs.{needs}
 use mathlib.Core.Path.{sym, ap}
 use Rattle.error.specs.Result.{toldUnit}

@@ -1,5 +1,5 @@
 -- `wide` meets its contract: the number fits.
--- Assumes nothing.
+-- Every i16 is an i32.
 use mathlib.Core.Path.{_∙_, ap}
 use lib.IntN.{ℤ}
 use mir.Syntax.{w16, w32}

@@ -1,5 +1,5 @@
 -- `club_figures` meets its contract: the coefficients are laid where they were left out.
--- Assumes nothing.
+-- They are 36, so they end where the three times stand.
 use mathlib.Core.Path.{_≡_}
 use native.Mathlib.Omega.{arith}
 use borrow.Author.Needs.{needs}

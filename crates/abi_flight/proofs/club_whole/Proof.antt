@@ -1,4 +1,5 @@
 -- `club_whole` meets its contract: each number is the record's, and a byte fits.
+-- The two signed numbers are held as they are.
 use borrow.Author.Needs.{needs}
 use mathlib.Core.List.{[], _∷_}
 use mir.Syntax.{w32}

@@ -1,4 +1,5 @@
 -- `flight_whole` meets its contract: each number is the record's.
+-- Each fits 32 bits, since the record holds it.
 use borrow.Author.Needs.{needs, sfits-of}
 use mathlib.Core.List.{[], _∷_}
 use lib.IntN.{pos}

@@ -1,5 +1,5 @@
 -- `lay` meets its contract: after i turns the first i numbers of the row are laid.
--- Assumes nothing.
+-- The measure is what is left of the row.
 use Prim.Native.Nat.{_+_, _-_, _≤_}
 use mathlib.Core.Path.{_≡_, refl, ap, _∙_}
 use mathlib.Core.List.{List}
@@ -7,7 +7,7 @@ use native.Mathlib.Omega.{arith}
 use lib.Ieee.{Float, nan}
 use lib.ListN.{length, getD, set, take, length-set}
 use lib.Seq.{sets, take-all}
-use Rattle.abi_flight.proofs.Laid.{step}
+use Rattle.abi.proofs.Laid.{step}
 use Rattle.abi_flight.proofs.lay.Statement.{statement}
 use Rattle.abi_flight.proofs.lay.Tie as tie
 

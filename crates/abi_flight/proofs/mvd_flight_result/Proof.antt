@@ -1,4 +1,5 @@
 -- `mvd_flight_result` meets its contract: it tells what the decoder tells, and lists its record.
+-- A refusal leaves both lists.
 use borrow.Author.Needs.{needs}
 use mathlib.Core.Path.{sym}
 use Rattle.abi.specs.Answer.{both}

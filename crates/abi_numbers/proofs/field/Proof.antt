@@ -1,4 +1,5 @@
 -- `field` meets its contract: what `numbers::field_at` tells lies in the places, or they are kept.
+-- The place of the other kind is kept.
 use borrow.Author.Needs.{needs}
 use mathlib.Core.Path.{_≡_, sym, ap, _∙_}
 use mir.Syntax.{w32}
@@ -25,8 +26,10 @@ returns-2 c = passed (told _ (c .before .x .given .1) (c .before .before .before
 
 returns-3 : tie.Need-returns-3
 returns-3 c =
-    let e = c .before .before .before in
-    refuses (PayloadTooShort _ _ _) (told _ (e .kind .given .1) (e .before .before .field-at .ensures)) _ _ (c .tell .ensures)
+    let short = c .before .before in
+    let e = short .before .before in
+    refuses (PayloadTooShort _ _ _) (told _ (e .kind .given .1) (e .before .before .field-at .ensures)) _ _
+    (rw (short .payload-too-short .ensures) at (c .tell .ensures))
 
 returns-4 : tie.Need-returns-4
 returns-4 c =
@@ -38,7 +41,7 @@ field-spec =
     tie.close
     (tie.spec
     (λ c κs. search needs) (λ c. search needs) (λ c. search needs) (λ c. search needs)
-    (λ c κs. search needs) (λ c. search needs) (λ c κs. search needs)
+    (λ c κs. search needs) (λ c κs. search needs) (λ c. search needs) (λ c κs. search needs)
     returns
     returns-2
     returns-3

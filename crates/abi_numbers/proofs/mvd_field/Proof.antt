@@ -1,4 +1,5 @@
 -- `mvd_field` meets its contract: the field of the message whose type is the byte, or that there is none.
+-- Three type bytes have a message; any other is refused with 11 and itself.
 use borrow.Author.Needs.{needs}
 use Prim.Native.Nat.{ℕ}
 use mathlib.Core.Path.{_≡_, sym, ap, _∙_}

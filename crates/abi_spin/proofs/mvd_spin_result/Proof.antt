@@ -1,5 +1,5 @@
 -- `mvd_spin_result` meets its contract: it tells what `SpinResult::decode` tells, as the record's numbers.
--- Assumes nothing.
+-- A refusal leaves both lists.
 use borrow.Author.Needs.{needs}
 use mathlib.Core.Path.{sym}
 use Rattle.abi_spin.specs.Numbers.{spinNumbers}

@@ -1,5 +1,5 @@
 -- `put` meets its contract: after i turns the numbers of i elements and i of the rest are stored.
--- Assumes nothing.
+-- The elements end before the rest begins, so neither run alters the other.
 use borrow.Author.Needs.{needs}
 use Prim.Native.Nat.{_≤_, _+_, _-_, _*_}
 use mathlib.Core.Path.{_≡_, refl, _∙_}

@@ -1,5 +1,5 @@
 -- `snr` meets its contract: the number is the element's.
--- Assumes nothing.
+-- The i16 that the record holds is made one of 32.
 use Rattle.abi.proofs.Widened.{widened}
 use Rattle.abi_spin.proofs.snr.Statement.{statement}
 use Rattle.abi_spin.proofs.snr.Tie as tie

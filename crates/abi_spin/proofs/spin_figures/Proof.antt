@@ -1,5 +1,5 @@
 -- `spin_figures` meets its contract: after i turns the peaks of i elements stand at their places, and the axis behind.
--- Assumes nothing.
+-- The array starts as sixteen times the axis, so its last place is never stored.
 use borrow.Author.Needs.{needs}
 use Prim.Native.Nat.{_≤_, _-_}
 use mathlib.Core.Path.{_≡_, refl, sym, ap, _∙_}

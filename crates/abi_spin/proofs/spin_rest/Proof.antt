@@ -1,5 +1,5 @@
 -- `spin_rest` meets its contract: each number is the record's.
--- Assumes nothing.
+-- Each i16 is made wider, and so is the method, a byte; the flags are held as they are.
 use borrow.Author.Needs.{sfits-of}
 use mathlib.Core.List.{[], _∷_}
 use mir.Syntax.{w32}

@@ -1,5 +1,5 @@
 -- `spin_whole` meets its contract: the parts fill the list.
--- Assumes nothing.
+-- The version, 30 numbers of the elements and 15 of the rest are 46.
 use borrow.Author.Needs.{needs}
 use mathlib.Core.Path.{refl, sym, _∙_}
 use lib.IntN.{pos}

@@ -7,9 +7,11 @@ use lib.IntN.{ℤ}
 use lib.ListN.{length, set}
 use lib.Seq.{sets, length-sets}
 use mir.Syntax.{w32}
-use Rattle.error.specs.Refusal.{yes}
+use Rattle.error.specs.Refusal.{yes, refused}
 use Rattle.integer_write.specs.Writing.{intBytes, written}
 use Rattle.layout.proofs.Held.{held}
+use Rattle.numbers.specs.declared.Message.the-variants.{FlightResult}
+use Rattle.numbers.specs.Numbers.{shapeOf}
 use Rattle.bay_log.specs.Log.{logRule, logFields}
 use Rattle.bay_log.proofs.Record.{record-laid}
 use Rattle.bay_log.proofs.write_record.Statement.{statement}
@@ -17,13 +19,18 @@ use Rattle.bay_log.proofs.write_record.Tie as tie
 
 returns : tie.Need-returns
 unfolding logRule
-returns c = simp (lt-ltb (length (c .before .before .before .args .payload .now)) 157 (c .if1 .taken))
+returns c =
+    let l = c .before in
+    let a = l .before .before .before .before .args in
+    let e = c .payload-too-short .ensures in
+    simp (lt-ltb (length (a .payload .now)) (shapeOf FlightResult .least) (l .if1 .taken)) (λ i. (refused (e i), a .buf .now))
 
 returns-2 : tie.Need-returns-2
 unfolding logRule
 returns-2 c =
-    let a = c .before .before .before .before .args in
-    simp (le-ltb (length (a .payload .now)) 157 (c .before .if1 .left), lt-ltb (length (a .buf .now)) 32 (c .if2 .taken))
+    let l = c .before in
+    let a = l .before .before .before .before .args in
+    simp (le-ltb (length (a .payload .now)) (shapeOf FlightResult .least) (l .if1 .left), lt-ltb (length (a .buf .now)) 32 (c .if2 .taken))
 
 -- the places of the code: behind the event number, behind both tests, at the start
 first : tie.After-write-int32 → tie.After-write-uint32
@@ -39,10 +46,11 @@ tests w9 = first w9 .before .before
 
 start : tie.After-write-int32 → tie.Start
 unfolding tests
-start w9 = tests w9 .before .before .before .before
+start w9 = tests w9 .before .before .before .before .before
 
 -- the buffer after the nine fields
-ended : (w9 : tie.After-write-int32) → w9 .write-int32 .last .0 ≡ sets (start w9 .args .buf .now) 0 (flatten (logFields (start w9 .args .event) (start w9 .args .payload .now)))
+ended : (w9 : tie.After-write-int32)
+    → w9 .write-int32 .last .0 ≡ sets (start w9 .args .buf .now) 0 (flatten (logFields (start w9 .args .event) (start w9 .args .payload .now)))
 unfolding start tests first
 ended w9 =
     let i9 = w9 .before in
@@ -79,11 +87,12 @@ returns-3 c =
     let t = tests w9 in
     let a = start w9 .args in
     let e = ended w9 in
-    simp (le-ltb (length (a .payload .now)) 157 (t .before .if1 .left), le-ltb (length (a .buf .now)) 32 (t .if2 .left)) (λ i. (yes tt, e i))
+    simp (le-ltb (length (a .payload .now)) (shapeOf FlightResult .least) (t .before .if1 .left), le-ltb (length (a .buf .now)) 32 (t .if2 .left))
+    (λ i. (yes tt, e i))
 
 pub write-record-spec : {M : Type 1} → statement M
 write-record-spec =
     tie.close
-    (tie.spec returns returns-2 (λ c κs. search needs) (λ c. search needs) (λ c κs. search needs) (λ c κs. search needs)
+    (tie.spec (λ c κs. search needs) returns returns-2 (λ c κs. search needs) (λ c. search needs) (λ c κs. search needs) (λ c κs. search needs)
     (λ c κs. search needs) (λ c κs. search needs) (λ c κs. search needs) (λ c κs. search needs) (λ c κs. search needs)
     (λ c κs. search needs) (λ c κs. search needs) same-length returns-3)

@@ -1,4 +1,5 @@
 -- `block` meets its contract: the first k bytes are the string's, and zeros behind it.
+-- `byte_at` tells 0 past the end, as the zeros behind the string do.
 use borrow.Author.Needs.{needs}
 use mathlib.Core.Path.{_≡_, refl, sym, _∙_}
 use mathlib.Core.List.{List, _++_}
@@ -46,7 +47,8 @@ loop-again c =
     let l = t .before in (
       omega (arith, t .loop-test .taken),
       simp length-set (l .loop .inv .1),
-      turn (l .before .before .args .s .now) (l .loop .a) (l .loop .k) (c .byte-at .result) (t .loop-test .taken) (l .loop .inv .1) (c .byte-at .ensures) (l .loop .inv .2),
+      turn (l .before .before .args .s .now) (l .loop .a) (l .loop .k) (c .byte-at .result) (t .loop-test .taken) (l .loop .inv .1) (c .byte-at .ensures)
+          (l .loop .inv .2),
     )
 
 returns : tie.Need-returns Inv-loop μ-loop

@@ -1,4 +1,5 @@
 -- `put_block` meets its contract: what is stored, and the stores to come, are the block's.
+-- It fits where the length less 16 is at or past the place, which is the rule's test.
 use borrow.Author.Needs.{needs}
 use borrow.Author.Tests.{le-leb, lt-leb}
 use mathlib.Core.Path.{_≡_, refl, _∙_}

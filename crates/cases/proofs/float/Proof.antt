@@ -1,4 +1,5 @@
 -- `float` is safe: a pattern that is not above the infinity's is no NaN's.
+-- Every NaN is made by a division, so no pattern of one is asked for.
 use borrow.Author.Needs.{needs}
 use mathlib.Core.Path.{_≡_, sym, subst, _∙_}
 use mathlib.Core.Bool.{Bool, not}

@@ -1,4 +1,5 @@
 -- `lent` meets its contract, by the length of a repeat: it is not counted out.
+-- 1024 bytes of one value.
 use Prim.Native.Nat.{ℕ}
 use mathlib.Core.Path.{sym}
 use lib.ListN.{length-replicate}

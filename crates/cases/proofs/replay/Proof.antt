@@ -1,4 +1,5 @@
 -- `replay` is safe and ends: the measure is what is left of the text.
+-- A line is lent where it starts at or before its end.
 use Prim.Native.Nat.{_-_}
 use lib.ListN.{length}
 use native.Mathlib.Omega.{arith}

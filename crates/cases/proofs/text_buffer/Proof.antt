@@ -1,4 +1,5 @@
 -- `text_buffer` meets its contract, by the length of a repeat: it is not counted out.
+-- A mebibyte of zeros.
 use Prim.Native.Nat.{ℕ}
 use mathlib.Core.Path.{sym}
 use lib.ListN.{length-replicate}

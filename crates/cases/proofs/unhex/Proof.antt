@@ -1,4 +1,5 @@
 -- `unhex` is safe and ends: the measure is the room left.
+-- It stops at the end of the line or of the buffer.
 use Prim.Native.Nat.{_-_}
 use mathlib.Core.Path.{_≡_, refl}
 use lib.ListN.{length, length-set}

@@ -1,4 +1,5 @@
 -- `within` meets its contract: it is the number, or the length.
+-- Either is at most the length.
 use native.Mathlib.Omega.{arith}
 use lib.ListN.{length}
 use Rattle.cases.proofs.Fronts.{front}

@@ -1,4 +1,4 @@
--- `check_head` meets its contract: DEST, andThen SRC, each as its byte tells.
+-- `check_head` meets its contract: DEST, then SRC, each as its byte tells.
 use borrow.Author.Needs.{needs}
 use mathlib.Core.Path.{_≡_, refl, sym, ap, _∙_}
 use Prim.Native.Nat.{_+_}

@@ -1,10 +1,12 @@
 -- `RawFrame::encode` meets its contract: each return is the rule's case.
 use borrow.Author.Needs.{needs}
-use mathlib.Core.Path.{refl, ap}
+use mathlib.Core.Path.{_≡_, refl, ap}
+use mathlib.Core.List.{[], _∷_}
 use Prim.Native.Nat.{_≤_}
 use lib.ListN.{length}
-use Rattle.error.specs.Refusal.{yes}
+use Rattle.error.specs.Refusal.{yes, no}
 use Rattle.encoding.specs.Wire.{Fields, fields, wireOf}
+use Rattle.encoding.specs.Encode.{encodeRule}
 use Rattle.encoding.proofs.Cases.{encode-long, encode-room, encode-fits}
 use Rattle.encoding.proofs.Stores.{front}
 use Rattle.encoding.proofs.encode.Statement.{statement}
@@ -12,6 +14,16 @@ use Rattle.encoding.proofs.encode.Tie as tie
 
 abbrev frameOf : tie.Start → Fields
 frameOf a = fields (a .args .dest) (a .args .src) (a .args .type-id) (a .args .payload .now)
+
+-- the wire is longer than the buffer
+module _ (c : tie.Then2) where
+  abbrev entry : tie.Start
+  entry = c .before .before .before .before .before
+
+  short : encodeRule (frameOf entry) (length (entry .args .wire .now)) ≡ no 8 (c .before .measure .result .need ∷ length (entry .args .wire .now) ∷ [])
+  short =
+      let e = c .before .measure .ensures .0 in
+      rw (encode-room (frameOf entry) (length (entry .args .wire .now)) (c .before .before .if1 .left) (rw (← e) (c .if2 .taken)), ← e) refl
 
 returns : tie.Need-returns
 returns c =
@@ -22,12 +34,7 @@ measure-requires : tie.Need-measure-requires
 measure-requires c κs = search needs
 
 returns-2 : tie.Need-returns-2
-returns-2 c =
-    let m = c .before in
-    let i = m .before in
-    let a = i .before .before .before in
-    let e = m .measure .ensures .0 in
-    rw (encode-room (frameOf a) (length (a .args .wire .now)) (i .if1 .left) (rw (← e) (c .if2 .taken)), ← e) (refl, refl)
+returns-2 c = rw (short c) (refl, refl)
 
 put-wire-requires : tie.Need-put-wire-requires
 put-wire-requires c κs = search needs

@@ -5,15 +5,16 @@ use Prim.Native.Nat.{_+_}
 use native.Mathlib.Omega.{arith}
 use lib.ListN.{length, length-set}
 use Rattle.stuffing.specs.Stuff.{stuffByte}
-use Rattle.encoding.proofs.Stores.{byte-width, byte-stored}
+use Rattle.stuffing.proofs.Sums.{more-of}
+use Rattle.encoding.proofs.Stores.{byte-stored}
 use Rattle.encoding.proofs.put_byte.Statement.{statement}
 use Rattle.encoding.proofs.put_byte.Tie as tie
 
 -- how far the second store is from the first
-wide : (c : tie.After-select) → 1 + c .select .result ≡ length (stuffByte (c .before .before .before .args .b))
+wide : (c : tie.After-select) → c .select .result + 1 ≡ length (stuffByte (c .before .before .before .args .b))
 wide c =
     let e = c .before in
-    byte-width (e .before .before .args .b) (e .escape-code .result) (e .escape-code .ensures) (c .select .result) (c .select .ensures)
+    more-of (e .before .before .args .b) (e .escape-code .result) (e .escape-code .ensures) (c .select .result) (c .select .ensures)
 
 escape-code-requires : tie.Need-escape-code-requires
 escape-code-requires c κs = search needs

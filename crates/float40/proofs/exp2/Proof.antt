@@ -1,4 +1,5 @@
 -- `exp2` meets its contract: its two tests are the rule's, and between them the exponent is counted from -1074.
+-- That count is below 2,098, which is what `two_to` requires.
 use Prim.Native.Nat.{ℕ, _<_}
 use mathlib.Core.Path.{_≡_, sym, ap, subst, _∙_}
 use mathlib.Core.Bool.{false}

@@ -1,4 +1,5 @@
 -- `float40_at` meets its contract: the part that starts at the place, or past the end a mantissa 0.
+-- A mantissa 0 is +0.0 whatever the exponent is.
 use borrow.Author.Needs.{needs}
 use Prim.Native.Nat.{ℕ, _-_, _≤_}
 use mathlib.Core.Path.{sym, ap, _∙_}

@@ -1,4 +1,5 @@
 -- `float40_of` meets its contract: one product with the power of two, and +0.0 of a mantissa 0.
+-- e - 23 fits 32 bits, so the power is that of the rule.
 use borrow.Author.Needs.{needs}
 use mathlib.Core.Path.{_≡_, sym, ap, subst, _∙_}
 use native.Mathlib.Omega.{arith}

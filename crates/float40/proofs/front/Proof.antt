@@ -1,4 +1,5 @@
 -- `front` meets its contract: the two fields are the exponent and the mantissa.
+-- Both come back from the machine as the rule has them.
 use borrow.Author.Needs.{needs}
 use mathlib.Core.Path.{ap, _∙_}
 use lib.IntN.{ℤ}

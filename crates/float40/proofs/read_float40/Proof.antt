@@ -1,11 +1,12 @@
 -- `read_float40` meets its contract: its test is the rule's, and the part has the five bytes.
+-- Where place plus 5 passes the largest usize the need is that, and no length reaches it.
 use borrow.Author.Needs.{needs}
 use Prim.Native.Nat.{ℕ, _+_, _-_}
 use mathlib.Core.Path.{_≡_, sym, ap, _∙_}
 use mathlib.Core.List.{[], _∷_}
 use native.Mathlib.Omega.{arith}
 use lib.ListN.{length, take, drop}
-use Rattle.error.specs.Refusal.{yes, no}
+use Rattle.error.specs.Refusal.{yes, no, refused}
 use Rattle.integer.proofs.Reading.{reads, refuses}
 use Rattle.float40.specs.Float40.{float40At}
 use Rattle.float40.proofs.Part.{from-place, five-bytes}
@@ -15,11 +16,16 @@ use Rattle.float40.proofs.read_float40.Tie as tie
 need-at-requires : tie.Need-need-at-requires
 need-at-requires c κs = search needs
 
+payload-too-short-requires : tie.Need-payload-too-short-requires
+payload-too-short-requires c κs = search needs
+
 returns : tie.Need-returns
 returns c =
-    let a = c .before .before .before .args in
+    let test = c .before in
+    let a = test .before .before .before .args in
     let s = a .«data» .now in
-    ap (λ (n : ℕ). no 7 (7 ∷ n ∷ length s ∷ [])) (c .before .need-at .ensures)
+    ap refused (c .payload-too-short .ensures)
+    ∙ ap (λ (n : ℕ). no 7 (7 ∷ n ∷ length s ∷ [])) (test .before .need-at .ensures)
     ∙ sym (refuses 7 5 float40At s (a .offset) (omega arith))
 
 add-end : tie.Need-add-end
@@ -51,6 +57,7 @@ read-float40-spec =
     tie.close
     (tie.spec
     need-at-requires
+    payload-too-short-requires
     returns
     add-end
     sub-front

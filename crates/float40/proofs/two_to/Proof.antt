@@ -1,4 +1,5 @@
 -- `two_to` meets its contract: its two patterns are the power's.
+-- A pattern that is a power's is no NaN's, so `from_bits` may be asked.
 use borrow.Author.Needs.{needs}
 use Rattle.float40.proofs.Pow2.{small-is, large-is, no-nan}
 use Rattle.float40.proofs.two_to.Statement.{statement}

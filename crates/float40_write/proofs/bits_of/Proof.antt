@@ -1,4 +1,5 @@
 -- `bits_of` meets its contract: only a NaN differs from itself.
+-- So `to_bits` is asked of no NaN, whose bits are not known.
 use borrow.Author.Needs.{needs}
 use mathlib.Core.Path.{_≡_, sym, ap, subst, _∙_}
 use mathlib.Core.Bool.{Bool, false, not}

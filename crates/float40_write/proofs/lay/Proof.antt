@@ -1,4 +1,5 @@
 -- `lay` meets its contract: the two fields, one behind the other, are the five bytes.
+-- Neither write is refused, for the part has room for both.
 use borrow.Author.Needs.{needs}
 use mathlib.Core.Path.{_≡_, ap, _∙_}
 use mathlib.Core.List.{List}

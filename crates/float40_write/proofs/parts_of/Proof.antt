@@ -1,4 +1,5 @@
 -- `parts_of` meets its contract: a mask is a remainder, a shift a quotient, and the numbers fit.
+-- A zero, a negative and a positive pattern each have their case.
 use Prim.Native.Nat.{ℕ, _+_, _/_, _%_, _^_, _<_, _≤_}
 use mathlib.Core.Path.{_≡_, sym, ap, subst, _∙_}
 use mathlib.Core.Bool.{Bool, true}

@@ -1,4 +1,5 @@
 -- `write_float40` meets its contract: it writes the value's bits.
+-- What `bits_of` and `write_float40_bits` say, put together.
 use borrow.Author.Needs.{needs}
 use Prim.Native.Nat.{ℕ}
 use mathlib.Core.Path.{ap, _∙_}

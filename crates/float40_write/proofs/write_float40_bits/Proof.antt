@@ -1,4 +1,5 @@
 -- `write_float40_bits` meets its contract: its test is the rule's, and the part that it lays anew is put back.
+-- A refusal comes before any byte is laid.
 use borrow.Author.Needs.{needs}
 use Prim.Native.Nat.{ℕ, _+_, _-_, _≤_}
 use mathlib.Core.Path.{_≡_, sym, ap, _∙_}

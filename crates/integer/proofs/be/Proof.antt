@@ -1,4 +1,5 @@
 -- `be` meets its contract: the loop's number is that of the bytes passed.
+-- Before each byte it is below 2 ^ 24, so the product and the sum fit 32 bits.
 use borrow.Author.Needs.{needs}
 use Prim.Native.Nat.{ℕ, _+_, _-_, _*_, _^_, _<_, _≤_}
 use mathlib.Core.Path.{_≡_, subst}
@@ -33,7 +34,12 @@ cast-n c = omega (arith, c .shared-slice-known .given (c .before .before .before
 
 add-n-2 : tie.Need-add-n-2 Inv-loop μ-loop
 add-n-2 c =
-    omega (arith, small 3 (c .before .before .loop .inv .2) (omega arith), c .shared-slice-known .given (c .before .before .before .args .offset + c .before .before .loop .i))
+    omega (
+      arith,
+      small 3 (c .before .before .loop .inv .2) (omega arith),
+      c .shared-slice-known .given
+          (c .before .before .before .args .offset + c .before .before .loop .i),
+    )
 
 add-i : tie.Need-add-i Inv-loop μ-loop
 add-i c = omega arith

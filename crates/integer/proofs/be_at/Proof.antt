@@ -1,4 +1,5 @@
 -- `be_at` meets its contract: the field is there, or the end cuts it.
+-- What `within` told is what `be` and `be_cut` require.
 use borrow.Author.Needs.{needs}
 use Prim.Native.Nat.{_+_}
 use mathlib.Core.Path.{sym, _∙_}

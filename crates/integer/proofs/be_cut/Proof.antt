@@ -1,4 +1,5 @@
 -- `be_cut` meets its contract: a byte past the end counts as 0.
+-- So the number is that of the bytes that are there, moved up by the bytes that are not.
 use borrow.Author.Needs.{needs}
 use Prim.Native.Nat.{ℕ, _+_, _-_, _*_, _%_, _^_, _<_}
 use mathlib.Core.Path.{_≡_, sym, ap, subst, _∙_}

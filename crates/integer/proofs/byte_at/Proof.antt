@@ -1,4 +1,5 @@
--- `byte_at` meets its contract.
+-- `byte_at` meets its contract: the byte where the place is within, else 0.
+-- `getD` answers its default from the end on.
 use borrow.Author.Needs.{needs}
 use mathlib.Core.Path.{sym}
 use lib.ListN.{List·getD-eq-default}

@@ -1,4 +1,5 @@
 -- `int16_at` meets its contract: the number of two bytes fits an i16.
+-- So the cast keeps it.
 use borrow.Author.Needs.{needs}
 use mathlib.Core.Path.{sym, subst, _∙_}
 use native.Mathlib.Omega.{arith}

@@ -1,4 +1,5 @@
 -- `int_at` meets its contract: moved up by the spare bits and down again, it is the number of 8k bits.
+-- So one shift serves every width; the law is `moved`.
 use borrow.Author.Needs.{needs}
 use Prim.Native.Nat.{ℕ, _+_, _-_, _*_, _^_}
 use mathlib.Core.Path.{_≡_, sym, ap, subst, _∙_}

@@ -1,4 +1,5 @@
 -- `int_of` meets its contract: the lower half as it is, the upper half as far below 0 as it is below 2 ^ 32.
+-- Each cast is of a number below 2 ^ 31, so it fits.
 use borrow.Author.Needs.{needs}
 use Prim.Native.Nat.{_-_, _<_}
 use mathlib.Core.Path.{sym, subst, _∙_}

@@ -1,4 +1,5 @@
--- `within` meets its contract.
+-- `within` meets its contract: the test without a sum is the one with it.
+-- Where len is below k nothing fits; else both sides are moved by k.
 use Prim.Native.Nat.{_+_, _-_}
 use mathlib.Core.Path.{sym, _∙_}
 use native.Mathlib.Omega.{arith}

@@ -1,4 +1,5 @@
 -- `read_int24` meets its contract: what `check_len` tells, with the field as its value.
+-- The refusal is passed on as it is.
 use borrow.Author.Needs.{needs}
 use mathlib.Core.Path.{ap, _∙_}
 use mir.Syntax.{w32}

@@ -1,4 +1,5 @@
 -- `read_int24_scaled` meets its contract: what `read_int24` tells, divided once.
+-- The number that is divided is the one that its bits stand for; a refusal is passed on.
 use borrow.Author.Needs.{needs}
 use mathlib.Core.Path.{ap, _∙_}
 use lib.IntN.{ℤ}

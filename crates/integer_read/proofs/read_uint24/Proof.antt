@@ -1,4 +1,5 @@
 -- `read_uint24` meets its contract: what `check_len` tells, with the field as its value.
+-- The refusal is passed on as it is.
 use borrow.Author.Needs.{needs}
 use mathlib.Core.Path.{ap, _∙_}
 use Rattle.error.specs.Refusal.{yes}

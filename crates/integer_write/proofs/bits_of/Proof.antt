@@ -1,4 +1,5 @@
--- `bits_of` meets its contract.
+-- `bits_of` meets its contract: with 2 ^ 32 added no number is negative, and the remainder is its bits.
+-- The sum is taken in 64 bits, where it fits (`Bias`).
 use borrow.Author.Needs.{needs}
 use Prim.Native.Nat.{_%_}
 use mathlib.Core.Path.{sym, ap, subst, _∙_}

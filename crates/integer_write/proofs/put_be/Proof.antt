@@ -1,4 +1,5 @@
 -- `put_be` meets its contract: from the back, the bytes so far stand where they belong.
+-- What is left of the number is what the bytes to come are made of.
 use Prim.Native.Nat.{ℕ, _+_, _-_, _/_, _^_, _≤_}
 use mathlib.Core.Path.{_≡_, refl, ap, _∙_}
 use native.Mathlib.Omega.{arith}

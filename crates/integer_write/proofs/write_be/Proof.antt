@@ -1,4 +1,5 @@
--- `write_be` meets its contract.
+-- `write_be` meets its contract: what `within` tells is the rule's test.
+-- The bytes stand where `put_be` stored them, or the buffer is as it was.
 use borrow.Author.Needs.{needs}
 use Prim.Native.Nat.{ℕ, _+_}
 use mathlib.Core.Path.{_≡_, sym, ap, _∙_}

@@ -1,4 +1,5 @@
 -- `write_int` meets its contract: the low bytes of 32 bits are the low bytes.
+-- `write_be` says the rest, of the bits instead of the number.
 use borrow.Author.Needs.{needs}
 use Prim.Native.Nat.{ℕ, _*_, _≤_}
 use mathlib.Core.Path.{ap, subst, _∙_}

@@ -1,4 +1,5 @@
--- `write_int16` meets its contract.
+-- `write_int16` meets its contract: the cast to 32 bits keeps the number.
+-- `write_int` says the rest.
 use borrow.Author.Needs.{needs}
 use mathlib.Core.Path.{subst}
 use lib.IntN.{ℤ}

@@ -1,4 +1,5 @@
--- `write_int24` meets its contract.
+-- `write_int24` meets its contract: it is `write_int` at 3 bytes.
+-- The number is the one that its 32 bits stand for.
 use borrow.Author.Needs.{needs}
 use mathlib.Core.Path.{subst}
 use lib.IntN.{ℤ}

@@ -1,4 +1,5 @@
--- `int16_scaled_at` meets its contract.
+-- `int16_scaled_at` meets its contract: the field as a float, divided once.
+-- The cast to f64 is of the number that the field's bits stand for.
 use borrow.Author.Needs.{needs}
 use mathlib.Core.Path.{ap}
 use mir.Syntax.{w16}

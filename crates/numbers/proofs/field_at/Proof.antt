@@ -36,8 +36,8 @@ returns-3 c =
     let f = c .before .before .before .before .before in
     let a = f .before .before .args in
     ap (λ (z : ℤ). yes (whole z)) (held w32 (c .before .before .whole .ensures) (c .before .before .whole .ok))
-    ∙ told-count (a .message) (a .payload .now) (a .number) _ (f .shape-of .ensures) (c .before .before .before .before .if1 .left) (c .before .before .before .if2 .left) _
-    (c .before .divisor .ensures) (c .if3 .taken)
+    ∙ told-count (a .message) (a .payload .now) (a .number) _ (f .shape-of .ensures)
+    (c .before .before .before .before .if1 .left) (c .before .before .before .if2 .left) _ (c .before .divisor .ensures) (c .if3 .taken)
 
 whole-requires-2 : tie.Need-whole-requires-2
 whole-requires-2 c κs =

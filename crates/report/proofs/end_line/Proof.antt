@@ -1,15 +1,14 @@
 -- `end_line` meets its contract: the parts of its line, one behind the other.
-use Prim.Native.Nat.{ℕ, _+_, _<_, _≤_}
+-- The line's length, worked out first, is at most 128 and decides whether it fits.
+use Prim.Native.Nat.{ℕ, _+_}
 use mathlib.Core.Path.{_≡_, sym, ap, _∙_}
-use mathlib.Core.List.{List, [], _∷_, _++_}
-use mathlib.Core.Bool.{cond}
 use native.Mathlib.Omega.{arith}
 use lib.ListN.{length, length-set}
 use Rattle.report.specs.Text.{decimalOf}
 use Rattle.report.specs.Line.{endText}
 use Rattle.report.specs.Put.{Put}
 use Rattle.report.proofs.Stores.{put-then, put-length}
-use Rattle.report.proofs.Lines.{refused-line, end-room, ended-line, mark-length, end-parts, end-length}
+use Rattle.report.proofs.Lines.{refused-line, end-room, ended-line, mark-length, endFront, end-parts, end-length}
 use borrow.Author.Needs.{needs}
 use Rattle.report.proofs.end_line.Statement.{statement}
 use Rattle.report.proofs.end_line.Tie as tie
@@ -26,8 +25,8 @@ given c = c .before .before .before
 
 before-end :
     (c : tie.After-put-number2)
-    → Put (((0x65 ∷ 0x6E ∷ 0x64 ∷ []) ++ (0x20 ∷ decimalOf (given (tested c) .args .count))) ++ (0x20 ∷ decimalOf (cond (given (tested c) .args .skipping) 1 0)))
-    (given (tested c) .args .out .now) 0 (c .put-number2 .result) (c .put-number2 .last .1 .1 .0)
+    → let a = given (tested c) .args in
+    Put (endFront (a .count) (a .skipping)) (a .out .now) 0 (c .put-number2 .result) (c .put-number2 .last .1 .1 .0)
 before-end c =
     let b = c .before .before in
     let n = b .before .before .before in
@@ -71,7 +70,8 @@ slice-write-out c =
     let n = c .before .before in
     let f = tested n in
     let a = given f .args in
-    end-room (endText (a .count) (a .skipping)) (a .out .now) _ (whole (f .before)) (omega (arith, f .before .digits .ensures)) (f .if1 .left) (before-end n) (end-parts (a .count) (a .skipping))
+    end-room (endText (a .count) (a .skipping)) (a .out .now) _ (whole (f .before)) (omega (arith, f .before .digits .ensures)) (f .if1 .left)
+    (before-end n) (end-parts (a .count) (a .skipping))
 
 same-length : tie.Need-same-length
 same-length c = simp length-set (put-length (before-end (c .before .before)))
@@ -81,7 +81,8 @@ returns-2 c =
     let n = c .before .before in
     let f = tested n in
     let a = given f .args in
-    ended-line (endText (a .count) (a .skipping)) (a .out .now) _ (whole (f .before)) (omega (arith, f .before .digits .ensures)) (f .if1 .left) (before-end n) (end-parts (a .count) (a .skipping))
+    ended-line (endText (a .count) (a .skipping)) (a .out .now) _ (whole (f .before)) (omega (arith, f .before .digits .ensures)) (f .if1 .left)
+    (before-end n) (end-parts (a .count) (a .skipping))
 
 pub end-line-spec : {M : Type 1} → statement M
 end-line-spec =

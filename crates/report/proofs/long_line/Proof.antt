@@ -1,4 +1,5 @@
 -- `long_line` meets its contract: the parts of its line, one behind the other.
+-- The line's length, worked out first, is at most 128 and decides whether it fits.
 use Prim.Native.Nat.{ℕ, _+_}
 use mathlib.Core.Path.{_≡_, ap, _∙_}
 use native.Mathlib.Omega.{arith}

@@ -1,7 +1,6 @@
 -- `all_lines` meets its contract. The invariant: the lines of what is taken are put (`Going`).
 -- The measure is what is left of the piece.
-use Prim.Native.Nat.{ℕ, _+_, _-_, _*_, _<_, _≤_}
-use mathlib.Core.Path.{_≡_, refl, sym, ap, _∙_}
+use Prim.Native.Nat.{ℕ, _+_, _-_, _<_, _≤_}
 use mathlib.Core.List.{List, _++_}
 use native.Mathlib.Omega.{arith}
 use lib.ListN.{length, take, drop, length-drop}
@@ -39,8 +38,19 @@ module _ (c : tie.After-next-event Inv-loop μ-loop) where
   abbrev now : Stage
   now = stage (turn .before .loop .session) (turn .before .loop .hold) (turn .before .loop .payload)
 
-  step : Stepped now (drop (turn .before .loop .at) (args .args .chunk .now)) (drop (turn .before .loop .written) (turn .before .loop .out)) (c .next-event .result) (c .next-event .last .1 .0) (c .next-event .last .1 .1 .0) (c .next-event .last .1 .1 .1 .1 .0)
-  step = rw (part-from (args .args .chunk .now) (turn .before .loop .at), part-from (turn .before .loop .out) (turn .before .loop .written)) at (c .next-event .ensures)
+  -- the part of the buffer of lines that is lent, and its bytes after the call
+  abbrev lent : List ℕ
+  lent = drop (turn .before .loop .written) (turn .before .loop .out)
+
+  abbrev filled : List ℕ
+  filled = c .next-event .last .1 .1 .1 .1 .0
+
+  step :
+      let e = c .next-event in
+      Stepped now (drop (turn .before .loop .at) (args .args .chunk .now)) lent (e .result) (e .last .1 .0) (e .last .1 .1 .0) filled
+  step =
+      let l = turn .before .loop in
+      rw (part-from (args .args .chunk .now) (l .at), part-from (l .out) (l .written)) at (c .next-event .ensures)
 
   abbrev first : Stage
   first = stage (args .args .start) (args .args .hold .now) (args .args .payload .now)
@@ -52,8 +62,9 @@ module _ (c : tie.After-next-event Inv-loop μ-loop) where
   taken-some = moves first (args .args .chunk .now) (args .args .out .now) (args .pre .1) (turn .before .loop .inv) (turn .loop-test .taken) step
 
   again :
-      Going first (args .args .chunk .now) (args .args .out .now) next (turn .before .loop .at + c .next-event .result .taken) (turn .before .loop .written + c .next-event .result .written)
-      (take (turn .before .loop .written) (turn .before .loop .out) ++ (c .next-event .last .1 .1 .1 .1 .0 ++ drop (length (turn .before .loop .out) - turn .before .loop .written) (drop (turn .before .loop .written) (turn .before .loop .out))))
+      let l = turn .before .loop in
+      Going first (args .args .chunk .now) (args .args .out .now) next (l .at + c .next-event .result .taken) (l .written + c .next-event .result .written)
+      (take (l .written) (l .out) ++ (filled ++ drop (length (l .out) - l .written) lent))
   again =
       goes-on first (args .args .chunk .now) (args .args .out .now) (args .pre .1) (turn .before .loop .inv) (turn .loop-test .taken) step
       (length (turn .before .loop .out) - turn .before .loop .written) (omega arith) (c .next-event .kept .1 .0) (c .next-event .kept .1 .1 .0)

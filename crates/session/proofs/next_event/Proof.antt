@@ -1,14 +1,16 @@
 -- `next_event` meets its contract: each arm is the rule's case for what the splitter said.
+-- What all arms know is said once, in the module below.
 use Prim.Native.Nat.{ℕ}
 use mathlib.Core.Path.{_≡_, refl, sym, ap, _∙_}
 use mathlib.Core.List.{List}
 use lib.ListN.{length}
 use Rattle.splitter.specs.declared.Event.{Event}
-use Rattle.splitter.specs.Feed.{toldEvent}
-use Rattle.stream.specs.Stream.{Said, Frame, saidOf}
+use Rattle.splitter.specs.Feed.{toldEvent, frame}
+use Rattle.error.specs.Refusal.{yes}
+use Rattle.stream.specs.Stream.{Said, saidOf}
 use Rattle.session.specs.Lines.{lineTo, numberTo}
 use Rattle.session.specs.Piece.{Stage, stage, payloadTo}
-use Rattle.session.specs.Event.{Wrote, Stepped}
+use Rattle.session.specs.Event.{Wrote, Stepped, stepOf}
 use Rattle.session.proofs.Events.{stepped, silent}
 use borrow.Author.Needs.{needs}
 use Rattle.session.proofs.next_event.Statement.{statement}
@@ -31,10 +33,10 @@ module _ (c : tie.After-wrapping-add-u64) where
   arm :
       (a : Said) → said (fed .feed .result .event) ≡ a → (n : ℕ) (p new : List ℕ) → p ≡ payloadTo (before .payload) a
       → Wrote (lineTo (length (before .payload)) (before .session .number) a) (given .args .out .now) n new
-      → Stepped before (given .args .chunk .now) (given .args .out .now)
-      (record { session = record { splitter = fed .feed .result .splitter; number = numberTo (before .session .number) a }; taken = fed .feed .result .taken; written = n })
-      (fed .feed .last .1 .0) p new
-  arm a s n p new = stepped before (given .args .chunk .now) (given .args .out .now) (fed .feed .result) (fed .feed .last .1 .0) (fed .feed .ensures) a s n p new
+      → let r = stepOf (fed .feed .result .splitter) (numberTo (before .session .number) a) (fed .feed .result .taken) n in
+      Stepped before (given .args .chunk .now) (given .args .out .now) r (fed .feed .last .1 .0) p new
+  arm a s n p new =
+      stepped before (given .args .chunk .now) (given .args .out .now) (fed .feed .result) (fed .feed .last .1 .0) (fed .feed .ensures) a s n p new
 
 feed-requires : tie.Need-feed-requires
 feed-requires c κs = search needs
@@ -91,8 +93,9 @@ returns c =
     let e = v .before .before .before in
     let w = e .before .before in
     let p = f .put-frame in
+    let wire = ap (said w) (e .event .given .1) ∙ ap (λ (w : List ℕ). yes (frame w)) (sym (v .view .ensures .0)) in
     rw (c .stepped-to .ensures, w .wrapping-add-u64 .ensures)
-    (arm w _ (ap (said w) (e .event .given .1) ∙ ap Frame (sym (v .view .ensures .0))) (p .result) (p .last .1 .1 .0) (p .last .1 .1 .1 .0) (p .ensures .1) (p .ensures .0))
+    (arm w _ wire (p .result) (p .last .1 .1 .0) (p .last .1 .1 .1 .0) (p .ensures .1) (p .ensures .0))
 
 same-length-4 : tie.Need-same-length-4
 same-length-4 c = search needs
@@ -114,7 +117,8 @@ same-length-6 c = search needs
 returns-3 : tie.Need-returns-3
 returns-3 c =
     let w = c .before .before .before in
-    rw (c .stepped-to3 .ensures) (arm w _ (ap (said w) (c .before .enum-told2 .given .1)) 0 (before w .payload) (given w .args .out .now) refl (silent (given w .args .out .now)))
+    rw (c .stepped-to3 .ensures)
+    (arm w _ (ap (said w) (c .before .enum-told2 .given .1)) 0 (before w .payload) (given w .args .out .now) refl (silent (given w .args .out .now)))
 
 same-length-7 : tie.Need-same-length-7
 same-length-7 c = search needs
@@ -122,7 +126,8 @@ same-length-7 c = search needs
 returns-4 : tie.Need-returns-4
 returns-4 c =
     let w = c .before .before .before in
-    rw (c .stepped-to4 .ensures) (arm w _ (ap (said w) (c .before .enum-told3 .given .1)) 0 (before w .payload) (given w .args .out .now) refl (silent (given w .args .out .now)))
+    rw (c .stepped-to4 .ensures)
+    (arm w _ (ap (said w) (c .before .enum-told3 .given .1)) 0 (before w .payload) (given w .args .out .now) refl (silent (given w .args .out .now)))
 
 pub next-event-spec : {M : Type 1} → statement M
 next-event-spec =

@@ -1,5 +1,5 @@
--- `put_frame` meets its contract: the frame is parsed, and its line is at most 128 bytes, so it fits.
-use mathlib.Core.Path.{refl}
+-- `put_frame` meets its contract: the frame is parsed, and its line is put.
+-- A line is at most 128 bytes, so it fits.
 use Rattle.session.proofs.Events.{wrote}
 use borrow.Author.Needs.{needs}
 use Rattle.session.proofs.put_frame.Statement.{statement}

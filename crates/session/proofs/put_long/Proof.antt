@@ -1,4 +1,5 @@
--- `put_long` meets its contract: a line is at most 128 bytes, so it fits.
+-- `put_long` meets its contract: the line is put.
+-- A line is at most 128 bytes, so it fits.
 use Rattle.session.proofs.Events.{wrote}
 use borrow.Author.Needs.{needs}
 use Rattle.session.proofs.put_long.Statement.{statement}

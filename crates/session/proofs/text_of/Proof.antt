@@ -1,6 +1,6 @@
 -- `text_of` meets its contract: a part of the buffer's front.
-use mathlib.Core.Path.{_≡_, refl, sym, ap, _∙_}
-use lib.ListN.{length}
+-- It is empty where the reply is refused, or says more bytes than there are.
+use mathlib.Core.Path.{refl, sym, ap, _∙_}
 use lib.Seq.{length-take-le}
 use borrow.Author.Tests.{le-leb, lt-leb}
 use Rattle.error.specs.declared.ResultUsize.{ResultUsize}

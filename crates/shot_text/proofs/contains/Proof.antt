@@ -1,5 +1,5 @@
 -- `contains` meets its contract. The loop's invariant: the word stands at no place passed so far.
--- Assumes nothing.
+-- Past the last place where it fits it stands nowhere.
 use Prim.Native.Nat.{ℕ, suc, _-_, _≤_, _<_}
 use native.Mathlib.Omega.{arith}
 use borrow.Author.Count.{below-none, below-more}

@@ -1,5 +1,5 @@
 -- `end_of` meets its contract. The loop's invariant: cutting the back of the first `end` bytes cuts the back of all.
--- Assumes nothing.
+-- It ends at a byte that is kept, or at the start.
 use Prim.Native.Nat.{ℕ, _≤_}
 use mathlib.Core.Path.{_≡_, sym, _∙_, ap}
 use native.Mathlib.Omega.{arith}

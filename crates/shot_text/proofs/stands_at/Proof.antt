@@ -1,5 +1,5 @@
 -- `stands_at` meets its contract. The loop's invariant: the word's bytes passed so far are the text's.
--- Assumes nothing.
+-- At the first byte that differs it does not stand there.
 use Prim.Native.Nat.{ℕ, _+_, _-_, _≤_, _<_}
 use mathlib.Core.Path.{_≡_}
 use native.Mathlib.Omega.{arith}

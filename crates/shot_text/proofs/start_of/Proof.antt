@@ -1,5 +1,5 @@
 -- `start_of` meets its contract. The loop's invariant: cutting the front from `start` on cuts the front of all.
--- Assumes nothing.
+-- It ends at a byte that is kept, or at the end.
 use Prim.Native.Nat.{_-_, _≤_}
 use mathlib.Core.Path.{_≡_, refl, sym, _∙_, ap}
 use native.Mathlib.Omega.{arith}

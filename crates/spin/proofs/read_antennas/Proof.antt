@@ -1,5 +1,5 @@
 -- `read_antennas` meets its contract: each call answers an element.
--- Assumes nothing.
+-- Element n begins at place 1 + 7n, as in the table.
 use mathlib.Core.List.{[], _∷_}
 use native.Mathlib.Omega.{arith}
 use Rattle.spin.proofs.read_antennas.Statement.{statement}

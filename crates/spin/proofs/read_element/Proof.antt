@@ -1,5 +1,5 @@
 -- `read_element` meets its contract: each call answers a field of the table, in the part that is the element.
--- Assumes nothing.
+-- What stands at a place of the part stands that far behind its start in the payload.
 use borrow.Author.Needs.{needs}
 use Prim.Native.Nat.{_+_, _-_}
 use mathlib.Core.Path.{_≡_, _∙_, ap}

@@ -1,5 +1,5 @@
 -- `read_spin` meets its contract: each call answers a field of the table.
--- Assumes nothing.
+-- A signed number that is read is the number its bits hold.
 use mathlib.Core.Path.{sym}
 use native.Mathlib.Omega.{arith}
 use lib.Seq.{length-take-le}

@@ -1,5 +1,5 @@
 -- `zero_spin` meets its contract: the literal 0.0 is +0.0.
--- Assumes nothing.
+-- Every other number is a whole 0.
 use mathlib.Core.Path.{refl}
 use lib.Ieee.{ofBits}
 use Rattle.spin.specs.Tables.{spinOf}

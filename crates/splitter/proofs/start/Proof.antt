@@ -1,29 +1,25 @@
--- `start` meets its contract: at each `return` the tests that led there say which case of `startIn` holds.
--- Assumes nothing.
-use mathlib.Core.Path.{_≡_}
+-- `start` meets its contract: at once where a frame is open, else at the first F0.
+-- Either place lies in the chunk.
+use mathlib.Core.Path.{sym, _∙_}
 use borrow.Author.Needs.{needs}
 use native.Mathlib.Omega.{arith}
-use borrow.Author.Tests.{eq-eqb, ne-eqb}
 use Rattle.search.proofs.First.{first-le}
 use Rattle.splitter.proofs.start.Statement.{statement}
 use Rattle.splitter.proofs.start.Tie as tie
 
-returns : tie.Need-returns
-returns c = (simp (c .if1 .taken), omega arith)
+is-open-requires : tie.Need-is-open-requires
+is-open-requires c κs = search needs
 
-returns-2 : tie.Need-returns-2
-returns-2 c =
-    let some : c .before .before .before .before .args .s .count ≡ 0 → ⊥ = λ z. omega arith in
-    (simp (c .before .before .if1 .left, ne-eqb _ _ some), omega arith)
+returns : tie.Need-returns
+returns c = (simp (sym (c .before .«is-open» .ensures) ∙ c .if1 .taken), omega arith)
 
 find-requires : tie.Need-find-requires
 find-requires c κs = search needs
 
-returns-3 : tie.Need-returns-3
-returns-3 c =
+returns-2 : tie.Need-returns-2
+returns-2 c =
     let e = c .before in
-    let none : e .before .before .before .before .args .s .count ≡ 0 = omega arith in
-    (simp (e .before .before .if1 .left, eq-eqb _ _ none) (c .find .ensures), rw (c .find .ensures) (first-le _ 0 _ (omega arith)))
+    (simp (sym (e .before .«is-open» .ensures) ∙ e .if1 .left) (c .find .ensures), rw (c .find .ensures) (first-le _ 0 _ (omega arith)))
 
 pub start-spec : {M : Type 1} → statement M
-start-spec = tie.close (tie.spec returns returns-2 find-requires returns-3)
+start-spec = tie.close (tie.spec is-open-requires returns find-requires returns-2)

@@ -1,5 +1,5 @@
 -- `stays` meets its contract: at each `return` the test that led there says which case of `goesOn` holds.
--- Assumes nothing.
+-- The bytes that are held are those that `lay` ensures.
 use mathlib.Core.Path.{_≡_, refl, sym, _∙_}
 use mathlib.Core.Bool.{true}
 use Prim.Native.Nat.{_-_, _≤_}
@@ -18,10 +18,14 @@ sub-added c = search needs
 lost-requires : tie.Need-lost-requires
 lost-requires c κs = search needs
 
+went-on-requires : tie.Need-went-on-requires
+went-on-requires c κs = search needs
+
 returns : tie.Need-returns
 returns c =
-    let a = c .before .before .before .before .args in
-    goes-lost (a .s) (a .hold .now) (a .chunk .now) (a .from) (length (a .chunk .now)) _ refl (not-true _ (sym (c .before .lost .ensures) ∙ c .if1 .taken))
+    let e = c .before in
+    let a = e .before .before .before .before .args in
+    goes-lost (a .s) (a .hold .now) (a .chunk .now) (a .from) (length (a .chunk .now)) _ (c .«went-on» .ensures) (not-true _ (sym (e .before .lost .ensures) ∙ e .if1 .taken))
 
 -- past the test
 kept : (c : tie.Else1) → let a = c .before .before .before .before .args in isKept (a .s) (length (a .hold .now)) (length (a .chunk .now) - a .from) ≡ true
@@ -43,19 +47,22 @@ lay-requires c κs =
     let f : lengthWith (a .s) (length (a .chunk .now) - a .from) ≤ length (a .hold .now) = kept-is (a .s) (length (a .hold .now)) (length (a .chunk .now) - a .from) (kept e) .1 in
     omega arith
 
-add-t9 : tie.Need-add-t9
-add-t9 c = search needs
+add-went-on : tie.Need-add-went-on
+add-went-on c = search needs
+
+went-on-requires-2 : tie.Need-went-on-requires-2
+went-on-requires-2 c κs = search needs
 
 same-length : tie.Need-same-length
 same-length c = search needs
 
 returns-2 : tie.Need-returns-2
 returns-2 c =
-    let l = c .before .before in
+    let l = c .before .before .before in
     let e = l .before .before .before in
     let a = e .before .before .before .before .args in
-    goes-held (a .s) (a .hold .now) (a .chunk .now) (a .from) (length (a .chunk .now)) _ (kept e) (l .lay .last .0) (l .lay .ensures) refl
+    goes-held (a .s) (a .hold .now) (a .chunk .now) (a .from) (length (a .chunk .now)) _ (kept e) (l .lay .last .0) (l .lay .ensures) (c .«went-on2» .ensures)
 
 pub stays-spec : {M : Type 1} → statement M
 stays-spec =
-    tie.close (tie.spec sub-added lost-requires returns sub-lay part-lay-start part-lay-end lay-requires add-t9 same-length returns-2)
+    tie.close (tie.spec sub-added lost-requires went-on-requires returns sub-lay part-lay-start part-lay-end lay-requires add-went-on went-on-requires-2 same-length returns-2)

@@ -1,5 +1,5 @@
 -- `read_tracking` meets its contract: each call answers a field of the table.
--- Assumes nothing.
+-- A signed number that is read is the number its bits hold.
 use mathlib.Core.Path.{sym}
 use lib.Seq.{length-take-le}
 use mathlib.Core.List.{[], _∷_}
@@ -35,6 +35,9 @@ returns c =
     let c2 = c3 .before in
     let c1 = c2 .before in
     let c0 = c1 .before in
+    let m0 = held w32 (c16 .int24-at2 .ensures) (c16 .int24-at2 .ok) in
+    let m1 = held w32 (c17 .int24-at3 .ensures) (c17 .int24-at3 .ok) in
+    let m2 = held w32 (c18 .int24-at4 .ensures) (c18 .int24-at4 .ok) in
     λ i.
     record {
       state = c0 .byte-at .ensures i;
@@ -53,7 +56,7 @@ returns c =
       «trigger_flags» = c13 .byte-at7 .ensures i;
       «event_counter» = c14 .uint16-at3 .ensures i;
       «radar_baseline» = held w32 (c15 .int24-at .ensures) (c15 .int24-at .ok) i;
-      «track_measure» = held w32 (c16 .int24-at2 .ensures) (c16 .int24-at2 .ok) i ∷ held w32 (c17 .int24-at3 .ensures) (c17 .int24-at3 .ok) i ∷ held w32 (c18 .int24-at4 .ensures) (c18 .int24-at4 .ok) i ∷ [];
+      «track_measure» = m0 i ∷ m1 i ∷ m2 i ∷ [];
       «track_measure4» = c19 .uint16-at4 .ensures i;
     }
 

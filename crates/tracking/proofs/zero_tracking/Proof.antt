@@ -1,5 +1,5 @@
 -- `zero_tracking` meets its contract.
--- Assumes nothing.
+-- Every number of it is a whole 0.
 use mathlib.Core.Path.{refl}
 use Rattle.tracking.specs.Table.{trackingOf}
 use Rattle.tracking.proofs.zero_tracking.Statement.{statement}

@@ -1,4 +1,5 @@
 -- `offer` is safe and ends: the hold keeps its length; the measure is the turns left.
+-- The turns are counted, so that it ends whatever each call takes.
 use Prim.Native.Nat.{_-_}
 use mathlib.Core.Path.{_≡_, refl, _∙_}
 use lib.ListN.{length}

@@ -1,4 +1,5 @@
 -- `floats` is safe and ends: the measure is what is left of the list.
+-- Each turn prints one.
 use Prim.Native.Nat.{_-_}
 use native.Mathlib.Omega.{arith}
 use lib.ListN.{length}

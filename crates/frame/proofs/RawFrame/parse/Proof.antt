@@ -1,17 +1,19 @@
 -- `RawFrame::parse` meets its contract: a wire is checked, then the room is tested, then its payload is copied.
 use borrow.Author.Needs.{needs}
 use mathlib.Core.Path.{_≡_, refl, sym, ap, _∙_}
-use mathlib.Core.List.{_++_}
-use Prim.Native.Nat.{_≤_, _<_}
+use mathlib.Core.List.{List, _++_}
+use Prim.Native.Nat.{ℕ, _≤_, _<_}
 use native.Mathlib.Omega.{arith}
 use lib.ListN.{length, take, drop}
 use lib.Seq.{length-take-le}
-use Rattle.error.specs.Refusal.{yes, numberOf, valuesOf}
+use Rattle.error.specs.declared.WireError.{WireError}
+use Rattle.error.specs.Refusal.{yes, no, onYes, filled, numberOf, valuesOf}
 use Rattle.checking.specs.declared.Head.{Head}
 use Rattle.checking.specs.Rule.{toldHead}
-use Rattle.frame.specs.Rule.{checkRule, rawFrame}
+use Rattle.frame.specs.Rule.{checkRule, parseRule, rawFrame, headerOf}
+use Rattle.frame.specs.Walk.{raw}
 use Rattle.frame.proofs.Cases.{parse-refused, parse-room, parse-fits}
-use Rattle.frame.proofs.Parsed.{Held, held, head-no}
+use Rattle.frame.proofs.Parsed.{Held, held, head-no, partOf}
 use Rattle.frame.proofs.RawFrame.parse.Statement.{statement}
 use Rattle.frame.proofs.RawFrame.parse.Tie as tie
 
@@ -26,9 +28,40 @@ module _ (c : tie.After-known-told2) where
   seen : Held (start .args .wire .now) head
   seen = held (start .args .wire .now) head (ap toldHead (sym (c .before .checked2 .given .1)) ∙ c .before .before .before .check .ensures)
 
--- the lent part of the buffer is as long as the payload
-room : (c : tie.Else1) → length (take (head (c .before) .len) (start (c .before) .args .payload .now)) ≡ head (c .before) .len
-room c = length-take-le (head (c .before) .len) (start (c .before) .args .payload .now) (omega (arith, c .if1 .left))
+-- its payload fits, and the lent part of the buffer is as long
+module _ (c : tie.Else1) where
+  abbrev old : List ℕ
+  old = start (c .before) .args .payload .now
+
+  fits : head (c .before) .len ≤ length old
+  fits = omega (arith, c .if1 .left)
+
+  room : length (take (head (c .before) .len) old) ≡ head (c .before) .len
+  room = length-take-le (head (c .before) .len) old fits
+
+  -- the answer and the buffer, whatever holds the bytes that were copied
+  answered : {b : List ℕ} → b ≡ raw 0 (partOf (start (c .before) .args .wire .now) (head (c .before)))
+      → (yes (rawFrame (head (c .before) .dest) (head (c .before) .src) (head (c .before) .«type_id») (head (c .before) .len))
+      ≡ onYes headerOf (parseRule (start (c .before) .args .wire .now) (length old)))
+      × (b ++ drop (head (c .before) .len) old ≡ filled (onYes (λ f. f .payload) (parseRule (start (c .before) .args .wire .now) (length old))) old)
+  answered e =
+      let h = seen (c .before) in
+      rw (parse-fits (start (c .before) .args .wire .now) (length old) (h .value) (h .is) (omega (arith, h .len, fits)))
+      (ap (λ (x : Head). yes (rawFrame (x .dest) (x .src) (x .«type_id») (x .len))) (h .told), λ j. (e ∙ h .bytes) j ++ drop (h .len j) old)
+
+-- a refusal that was answered
+module _ (c : tie.After-known-told) where
+  abbrev asked : tie.Start
+  asked = c .before .before .before .before .before .before
+
+  abbrev why : WireError
+  why = c .before .checked .given .0 .0
+
+  refused : parseRule (asked .args .wire .now) (length (asked .args .payload .now)) ≡ no (numberOf why) (valuesOf why)
+  refused =
+      let w = asked .args .wire .now in
+      let t = head-no (checkRule w) w (numberOf why) (valuesOf why) (ap toldHead (sym (c .before .checked .given .1)) ∙ c .before .before .before .check .ensures) in
+      parse-refused w (length (asked .args .payload .now)) (numberOf why) (valuesOf why) t
 
 check-requires : tie.Need-check-requires
 check-requires c κs = search needs
@@ -68,29 +101,13 @@ copy-requires c κs =
     (omega (arith, h .count, h .len, room i), omega (arith, h .touched, h .len, room i))
 
 returns-2 : tie.Need-returns-2
-returns-2 c =
-    let k = c .before .before .before in
-    let a = k .before .before .before in
-    let w = a .args .wire .now in
-    let e = c .before .checked .given .0 .0 in
-    let t = head-no (checkRule w) w (numberOf e) (valuesOf e) (ap toldHead (sym (c .before .checked .given .1)) ∙ k .check .ensures) in
-    rw (parse-refused w (length (a .args .payload .now)) (numberOf e) (valuesOf e) t) (refl, refl)
+returns-2 c = rw (refused c) (refl, refl)
 
 same-length : tie.Need-same-length
 same-length c = search needs
 
 returns-3 : tie.Need-returns-3
-returns-3 c =
-    let p = c .before .before in
-    let i = p .before .before .before in
-    let k = i .before in
-    let h = seen k in
-    let w = start k .args .wire .now in
-    let old = start k .args .payload .now in
-    let fits : length (h .value .payload) ≤ length old = omega (arith, h .len, i .if1 .left) in
-    let e = p .copy .ensures ∙ h .bytes in
-    rw (parse-fits w (length old) (h .value) (h .is) fits)
-    (ap (λ (x : Head). yes (rawFrame (x .dest) (x .src) (x .«type_id») (x .len))) (h .told), λ j. e j ++ drop (h .len j) old)
+returns-3 c = let p = c .before .before in answered (p .before .before .before) (p .copy .ensures)
 
 pub parse-spec : {M : Type 1} → statement M
 parse-spec =

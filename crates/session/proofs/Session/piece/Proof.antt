@@ -1,5 +1,6 @@
 -- `Session::piece` meets its contract: each return is a case of the rule.
-use Prim.Native.Nat.{ℕ, _≤_}
+-- The state is tested before the room, as the rule has it.
+use Prim.Native.Nat.{_≤_}
 use mathlib.Core.Path.{_≡_, sym, _∙_}
 use mathlib.Core.Bool.{false}
 use lib.ListN.{length}
@@ -31,8 +32,8 @@ returns-2 : tie.Need-returns-2
 returns-2 c =
     let f = c .before .before in
     let a = given (f .before) .args in
-    rw (c .before .room-for .ensures)
-    (piece-full (stage (a .self) (a .hold .now) (a .payload .now)) (a .chunk .now) (a .out .now) (good f) (rw (c .before .room-for .ensures) at (c .if2 .taken)))
+    let less = rw (c .before .room-for .ensures) at (c .if2 .taken) in
+    rw (c .before .room-for .ensures) (piece-full (stage (a .self) (a .hold .now) (a .payload .now)) (a .chunk .now) (a .out .now) (good f) less)
 
 all-lines-requires : tie.Need-all-lines-requires
 all-lines-requires c κs =
@@ -57,8 +58,8 @@ returns-3 c =
     let r = l .before .before .before .before .before in
     let f = r .before in
     let a = given (f .before) .args in
-    l .all-lines .ensures
-    ∙ piece-fits (stage (a .self) (a .hold .now) (a .payload .now)) (a .chunk .now) (a .out .now) (good f) (rw (r .room-for .ensures) at (l .before .before .before .before .if2 .left))
+    let room = rw (r .room-for .ensures) at (l .before .before .before .before .if2 .left) in
+    l .all-lines .ensures ∙ piece-fits (stage (a .self) (a .hold .now) (a .payload .now)) (a .chunk .now) (a .out .now) (good f) room
 
 pub piece-spec : {M : Type 1} → statement M
 piece-spec =

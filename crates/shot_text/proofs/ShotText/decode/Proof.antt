@@ -1,5 +1,5 @@
 -- `ShotText::decode` meets its contract: the back is cut first, then the front of what is left.
--- Assumes nothing.
+-- What is answered is that part of the payload, not a copy.
 use borrow.Author.Needs.{needs}
 use Prim.Native.Nat.{_+_}
 use mathlib.Core.Path.{sym}

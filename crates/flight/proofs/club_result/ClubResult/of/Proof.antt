@@ -7,6 +7,10 @@ use Rattle.numbers.specs.Numbers.{wholeOf}
 use Rattle.flight.proofs.club_result.ClubResult.of.Statement.{statement}
 use Rattle.flight.proofs.club_result.ClubResult.of.Tie as tie
 
+-- the start, from the smash factor on
+abbrev at-smash-factor : tie.After-figure-at7 → tie.Start
+at-smash-factor c = c .before .before .before .before .before .before .before .before .before .before
+
 returns : tie.Need-returns
 unfolding wholeOf
 returns c =
@@ -68,7 +72,7 @@ of-spec =
     (λ c κs. search needs) (λ c κs. search needs)
     (λ c κs. search needs) (λ c κs. search needs)
     (λ c κs. search needs) (λ c κs. search needs) (λ c. search needs)
-    (λ c κs. omega (arith, c .before .before .before .before .before .before .before .before .before .before .before .before .before .before .before .before .before .before .before .pre))
+    (λ c κs. omega (arith, at-smash-factor (c .before .before .before .before .before .before .before .before .before) .pre))
     (λ c κs. search needs) (λ c κs. search needs)
     (λ c κs. search needs)
     returns)

@@ -8,6 +8,16 @@ use Rattle.numbers.specs.Numbers.{wholeOf}
 use Rattle.flight.proofs.flight_result.FlightResult.of.Statement.{statement}
 use Rattle.flight.proofs.flight_result.FlightResult.of.Tie as tie
 
+-- the start, from max height, roll distance and the polynomial scale on
+abbrev at-max-height : tie.After-figure-at7 → tie.Start
+at-max-height c = c .before .before .before .before .before .before .before .before .before .before
+
+abbrev at-roll-distance : tie.After-figure-at9 → tie.Start
+at-roll-distance c = at-max-height (c .before .before .before .before .before .before .before .before .before .before)
+
+abbrev at-poly-scale : tie.After-int24-at8 → tie.Start
+at-poly-scale c = at-roll-distance (c .before .before .before .before .before .before .before .before .before .before)
+
 returns : tie.Need-returns
 unfolding wholeOf
 returns c =
@@ -57,7 +67,11 @@ returns c =
       «backspin_rpm» = held w32 (c10 .int24-at2 .ensures) (c10 .int24-at2 .ok) i;
       «sidespin_rpm» = held w32 (c11 .int24-at3 .ensures) (c11 .int24-at3 .ok) i;
       «riflespin_rpm» = held w32 (c12 .int24-at4 .ensures) (c12 .int24-at4 .ok) i;
-      «landing_spin_rpm» = held w32 (c13 .int24-at5 .ensures) (c13 .int24-at5 .ok) i ∷ held w32 (c14 .int24-at6 .ensures) (c14 .int24-at6 .ok) i ∷ held w32 (c15 .int24-at7 .ensures) (c15 .int24-at7 .ok) i ∷ [];
+      «landing_spin_rpm» =
+          held w32 (c13 .int24-at5 .ensures) (c13 .int24-at5 .ok) i
+          ∷ held w32 (c14 .int24-at6 .ensures) (c14 .int24-at6 .ok) i
+          ∷ held w32 (c15 .int24-at7 .ensures) (c15 .int24-at7 .ok) i
+          ∷ [];
       «landing_velocity» = c16 .figures33 .ensures i;
       «total_distance» = c17 .figure-at8 .ensures i;
       «roll_distance» = c18 .figure-at9 .ensures i;
@@ -85,17 +99,17 @@ of-spec =
     (λ c κs. search needs) (λ c κs. search needs)
     (λ c κs. search needs) (λ c κs. search needs)
     (λ c κs. search needs) (λ c κs. search needs)
-    (λ c κs. omega (arith, c .before .before .before .before .before .before .before .before .before .before .pre))
+    (λ c κs. omega (arith, at-max-height c .pre))
     (λ c κs. search needs) (λ c κs. search needs) (λ c κs. search needs) (λ c κs. search needs)
     (λ c κs. search needs) (λ c κs. search needs)
-    (λ c κs. omega (arith, c .before .before .before .before .before .before .before .before .before .before .before .before .before .before .before .before .before .pre))
+    (λ c κs. omega (arith, at-max-height (c .before .before .before .before .before .before .before) .pre))
     (λ c κs. search needs) (λ c κs. search needs)
-    (λ c κs. omega (arith, c .before .before .before .before .before .before .before .before .before .before .before .before .before .before .before .before .before .before .before .before .pre))
+    (λ c κs. omega (arith, at-roll-distance c .pre))
     (λ c κs. search needs) (λ c κs. search needs)
     (λ c κs. search needs) (λ c κs. search needs)
     (λ c κs. search needs) (λ c κs. search needs)
     (λ c κs. search needs) (λ c κs. search needs) (λ c κs. search needs)
-    (λ c κs. omega (arith, c .before .before .before .before .before .before .before .before .before .before .before .before .before .before .before .before .before .before .before .before .before .before .before .before .before .before .before .before .before .before .pre))
-    (λ c κs. omega (arith, c .before .before .before .before .before .before .before .before .before .before .before .before .before .before .before .before .before .before .before .before .before .before .before .before .before .before .before .before .before .before .before .pre))
-    (λ c κs. omega (arith, c .before .before .before .before .before .before .before .before .before .before .before .before .before .before .before .before .before .before .before .before .before .before .before .before .before .before .before .before .before .before .before .before .pre))
+    (λ c κs. omega (arith, at-poly-scale c .pre))
+    (λ c κs. omega (arith, at-poly-scale (c .before) .pre))
+    (λ c κs. omega (arith, at-poly-scale (c .before .before) .pre))
     returns)

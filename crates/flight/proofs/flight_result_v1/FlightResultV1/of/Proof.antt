@@ -7,6 +7,13 @@ use Rattle.numbers.specs.Numbers.{wholeOf}
 use Rattle.flight.proofs.flight_result_v1.FlightResultV1.of.Statement.{statement}
 use Rattle.flight.proofs.flight_result_v1.FlightResultV1.of.Tie as tie
 
+-- the start, from the drag and the polynomial scale on
+abbrev at-drag : tie.After-figure-at10 → tie.Start
+at-drag c = c .before .before .before .before .before .before .before .before .before .before .before .before
+
+abbrev at-poly-scale : tie.After-int24-at4 → tie.Start
+at-poly-scale c = at-drag (c .before .before .before .before .before)
+
 returns : tie.Need-returns
 unfolding wholeOf
 returns c =
@@ -62,7 +69,7 @@ of-spec =
     (λ c κs. search needs) (λ c κs. search needs)
     (λ c κs. search needs) (λ c κs. search needs) (λ c κs. search needs)
     (λ c κs. search needs) (λ c κs. search needs) (λ c κs. search needs)
-    (λ c κs. omega (arith, c .before .before .before .before .before .before .before .before .before .before .before .before .before .before .before .before .before .pre))
-    (λ c κs. omega (arith, c .before .before .before .before .before .before .before .before .before .before .before .before .before .before .before .before .before .before .pre))
-    (λ c κs. omega (arith, c .before .before .before .before .before .before .before .before .before .before .before .before .before .before .before .before .before .before .before .pre))
+    (λ c κs. omega (arith, at-poly-scale c .pre))
+    (λ c κs. omega (arith, at-poly-scale (c .before) .pre))
+    (λ c κs. omega (arith, at-poly-scale (c .before .before) .pre))
     returns)

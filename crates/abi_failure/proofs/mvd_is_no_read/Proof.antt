@@ -1,0 +1,31 @@
+-- `mvd_is_no_read` meets its contract: it tells what the decoder tells, and the flag of its record.
+-- A refusal leaves the flag.
+use borrow.Author.Needs.{needs}
+use mathlib.Core.Path.{sym, ap, _∙_}
+use Rattle.abi.specs.Answer.{flagOf}
+use Rattle.abi.proofs.Passing.{shows, hides}
+use Rattle.flight.specs.declared.flight_result_v1.FlightResultV1.{FlightResultV1}
+use Rattle.flight.specs.Failure.{noRead}
+use Rattle.abi_failure.proofs.mvd_is_no_read.Statement.{statement}
+use Rattle.abi_failure.proofs.mvd_is_no_read.Tie as tie
+
+returns : tie.Need-returns
+returns c =
+    let told = c .before .before in
+    shows (λ (r : FlightResultV1). flagOf (noRead r)) (told .before .before .before .decode .ensures) _ _
+    (sym (told .enum-told .given .1)) (c .flag .ensures ∙ ap flagOf (c .before .is-no-read .ensures))
+
+returns-2 : tie.Need-returns-2
+returns-2 c =
+    let e = c .before .before .before in
+    hides (λ (r : FlightResultV1). flagOf (noRead r)) (e .before .before .before .decode .ensures) _ _
+    (e .result .given .0 .0) (sym (e .result .given .1)) (c .tell .ensures)
+
+pub mvd-is-no-read-spec : {M : Type 1} → statement M
+mvd-is-no-read-spec =
+    tie.close
+    (tie.spec
+    (λ c κs. search needs) (λ c. search needs) (λ c κs. search needs)
+    (λ c κs. search needs) (λ c. search needs) (λ c κs. search needs)
+    returns
+    returns-2)

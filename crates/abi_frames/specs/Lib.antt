@@ -1,2 +1,0 @@
--- How frames and the splitter pass to C.
-pub mod Frames

@@ -1,2 +1,0 @@
--- The laws of a text that is laid.
-pub mod Laid

@@ -1,0 +1,4 @@
+-- The laws of a text that is laid.
+-- And that no two replies are allowed.
+pub mod Laid
+pub mod One

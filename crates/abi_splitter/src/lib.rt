@@ -1,0 +1,59 @@
+// The splitter for C: its state lies in two lent places, and `feed` answers five words.
+// What the call tells, and every lent place, is the rule of `FrameSplitter::feed`; a refusal alters none of them but `values`.
+ghost use mathlib.Core.Path.{_≡_};
+ghost use Rattle.splitter.specs.Feed.{feedRule};
+ghost use Rattle.abi.specs.Answer.{flagOf, Passed};
+ghost use Rattle.abi_splitter.specs.Fed.{stateOf, leftBy};
+use abi::flag;
+use abi::tell;
+use splitter::Event;
+use splitter::FrameSplitter;
+
+#[no_mangle]
+pub extern "C" fn mvd_feed(
+    count: &mut usize,
+    skipping: &mut u8,
+    hold: &mut [u8],
+    chunk: &[u8],
+    fed: &mut [u64; 5],
+    values: &mut [u64; 3],
+) -> u64
+    ensures reply { λ k. ⌜ Passed (leftBy (feedRule (stateOf (now (count .entry)) (now (skipping .entry))) (now (hold .entry)) (now (chunk .entry))))
+        (now (count .entry), now (skipping .entry), now (fed .entry)) (now (values .entry))
+        k (now (count .exit), now (skipping .exit), now (fed .exit)) (now (values .exit)) ⌝ }
+    ensures bytes { λ k. ⌜ now (hold .exit)
+        ≡ feedRule (stateOf (now (count .entry)) (now (skipping .entry))) (now (hold .entry)) (now (chunk .entry)) .hold ⌝ }
+{
+    let state = FrameSplitter {
+        count: *count,
+        skipping: *skipping != 0,
+    };
+    let r = state.feed(hold, chunk);
+    let event = r.event;
+    let next = r.splitter;
+    let taken = r.taken as u64;
+    match event {
+        Event::More => *fed = [0, taken, 0, 0, 0],
+        Event::Frame(p) => {
+            *fed = [
+                1,
+                taken,
+                flag(p.in_hold) as u64,
+                p.start as u64,
+                p.len as u64,
+            ]
+        }
+        Event::Overlong => *fed = [2, taken, 0, 0, 0],
+        Event::Err(e) => return tell(e, values),
+    }
+    keep(next, count, skipping);
+    0
+}
+
+// The next state in its two lent places.
+fn keep(next: FrameSplitter, count: &mut usize, skipping: &mut u8)
+    ensures { λ r. ⌜ (now (count .exit) ≡ next .count) × (now (skipping .exit) ≡ flagOf (next .skipping)) ⌝ }
+{
+    *count = next.count;
+    *skipping = flag(next.skipping);
+}

@@ -1,0 +1,70 @@
+// A capture on standard input: read to its end, and document 01's line for each event and the line at the end printed.
+// The work on a piece is `session`'s, proved; here a piece is read, and its lines are written in one go.
+ghost use mathlib.Core.Path.{_≡_};
+ghost use lib.ListN.{length};
+use error::ResultUsize;
+use session::Session;
+
+// No contract can speak of standard input and output, and nothing is lent or answered: it is proved safe, and that it ends.
+pub fn print_all() {
+    let mut hold = [0u8; 2048];
+    let mut payload = [0u8; 2048];
+    let mut piece = [0u8; 8192];
+    let mut lines = line_buffer();
+    let session = read_all(&mut hold, &mut payload, &mut piece, &mut lines);
+    let splitter = session.splitter;
+    let reply = report::end_line(splitter.count, splitter.skipping, &mut lines);
+    print(reply, &lines);
+}
+
+// Room for the lines of a piece of 8,192 bytes. The contract gives the length, which lending it needs.
+fn line_buffer() -> [u8; 1048576]
+    ensures { λ r. ⌜ 1048576 ≡ length r ⌝ }
+{
+    [0; 1048576]
+}
+
+// Reads once in each turn and prints the lines of what came, to the end of the input or where a call fails.
+// A proved loop has to end, and nothing says that the input does: the turns are counted down from a
+// number that no run uses up.
+fn read_all(hold: &mut [u8], payload: &mut [u8], piece: &mut [u8], lines: &mut [u8]) -> Session {
+    let mut session = Session::new();
+    let mut turns = u64::MAX;
+    while turns > 0 {
+        let got = libc::read(libc::STDIN_FILENO, piece);
+        if got <= 0 {
+            told(got);
+            break;
+        }
+        let n = io::count(got, piece);
+        let ran = session.piece(hold, payload, &piece[..n], lines);
+        session = ran.session;
+        let reply = ran.reply;
+        if !print(reply, lines) {
+            break;
+        }
+        turns -= 1;
+    }
+    session
+}
+
+// Nothing came: a failure is told, an end is not.
+fn told(got: isize) {
+    if got < 0 {
+        io::write_all(
+            libc::STDERR_FILENO,
+            b"frames: standard input cannot be read\n",
+        );
+    }
+}
+
+fn print(reply: ResultUsize, lines: &[u8]) -> bool {
+    let written = io::write_all(libc::STDOUT_FILENO, session::text_of(reply, lines));
+    if !written {
+        io::write_all(
+            libc::STDERR_FILENO,
+            b"frames: standard output cannot be written\n",
+        );
+    }
+    written
+}
