@@ -1,5 +1,5 @@
 //! What the Rust answers to a case. Where document 01 adds a limit (room, a place by index, H), the Rust's own answer is
-//! cut to it here, by the words of that paper.
+//! cut to it here, by its words.
 use crate::answer::{bits, Answer, Case};
 use crate::ops;
 use ironsight::addr::BusAddr;
