@@ -1,5 +1,5 @@
 //! What the Rust answers to a case. Where document 01 adds a limit (room, a place by index, H), the Rust's own answer is
-//! cut to it here, by the words of that paper.
+//! cut to it here, by its words.
 use crate::answer::{bits, Answer, Case};
 use crate::ops;
 use ironsight::addr::BusAddr;
@@ -261,7 +261,7 @@ fn club_prc_point(p: &ClubPrcPoint) -> Answer {
 fn text(c: &Case) -> Answer {
     let t = ShotText::decode(&c.data).expect("E5 is never refused by the Rust");
     let said = [t.is_processed(), t.is_idle(), t.is_trigger()].map(i64::from);
-    // The repaired text is compared where nothing had to be repaired: the three searches always.
+    // The Rust's text is the trimmed part, repaired; the port's bytes are held to that part.
     let end = c.data.iter().rposition(|&b| b >= 0x20).map_or(0, |p| p + 1);
     let start = c.data[..end].iter().position(|&b| b >= 0x20).unwrap_or(0);
     let part = &c.data[start..end];
