@@ -1,13 +1,11 @@
 -- `figures36` meets its contract. The loop's invariant: the first j figures stand in their places.
 -- The measure is what is left of 36.
 use mathlib.Core.Path.{_≡_, _∙_, ap}
-use mathlib.Core.Bool.{false}
 use mathlib.Core.List.{List}
 use Prim.Native.Nat.{ℕ, _+_, _*_, _-_, _≤_}
 use native.Mathlib.Omega.{arith}
 use borrow.Author.Needs.{needs}
-use lib.IntN.{pos}
-use lib.Ieee.{Float, fin, ofBits}
+use lib.Ieee.{Float, ofBits}
 use mir.Syntax.{w32}
 use Rattle.general.specs.Number.{zeroF}
 use Rattle.integer.specs.Fields.{intAt}
