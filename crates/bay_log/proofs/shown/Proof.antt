@@ -1,4 +1,5 @@
 -- `shown` meets its contract: the machine's division is toward zero.
+-- A hundredth of a number in range is in range.
 use Prim.Native.Nat.{ℕ, zero, suc, _/_, _<_, _^_}
 use native.Mathlib.Omega.{arith}
 use lib.Dec.{lit<}

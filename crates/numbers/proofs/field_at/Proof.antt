@@ -1,4 +1,5 @@
 -- `field_at` meets its contract: the two refusals in their order, then the list's entry decides.
+-- Each of the four answers is a law of proofs/Told.
 use borrow.Author.Needs.{needs}
 use mir.Syntax.{w32}
 use mathlib.Core.Path.{_∙_, ap}

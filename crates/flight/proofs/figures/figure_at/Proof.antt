@@ -1,4 +1,5 @@
 -- `figure_at` meets its contract: the number that stands there, divided.
+-- The entry is the list's, wherever the list comes from.
 use borrow.Author.Needs.{needs}
 use mathlib.Core.Path.{_∙_, ap}
 use lib.ListN.{getD}

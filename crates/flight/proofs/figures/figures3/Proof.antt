@@ -1,4 +1,5 @@
 -- `figures3` meets its contract: each call's answer in its place, read in the part that is the row.
+-- A place in the part is the same place further on in the payload.
 use borrow.Author.Needs.{needs}
 use mathlib.Core.Path.{_≡_, _∙_, ap}
 use mathlib.Core.List.{[], _∷_}
