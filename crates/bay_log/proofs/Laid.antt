@@ -1,7 +1,7 @@
 -- Fields written one behind the other are their bytes in a row.
 -- `laid` is the writing, and `laid-is` says what stands in the buffer then.
-use Prim.Native.Nat.{ℕ, zero, suc, _+_, _≤_}
-use mathlib.Core.Path.{_≡_, refl, sym, _∙_, ap}
+use Prim.Native.Nat.{ℕ, suc, _+_, _≤_}
+use mathlib.Core.Path.{_≡_, refl, _∙_, ap}
 use mathlib.Core.List.{List, [], _∷_, _++_, flatten}
 use native.Mathlib.Omega.{arith}
 use lib.ListN.{length, set, length-append}

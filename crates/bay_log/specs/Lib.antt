@@ -1,2 +1,3 @@
 -- What the log's contract cites.
+-- One file: the record, and what writing it does.
 pub mod Log

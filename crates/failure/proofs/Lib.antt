@@ -1,2 +1,3 @@
--- What the contract of `no_speed` leaves open: nothing.
+-- The law of `no_speed`.
+-- Its contract allows one reply.
 pub mod One

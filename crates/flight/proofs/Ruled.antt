@@ -13,7 +13,8 @@ use Rattle.general.proofs.Cases.{by-test, by-lt, by-eq}
 use Rattle.general.proofs.Table.{at}
 use Rattle.numbers.specs.declared.Message.{Message}
 use Rattle.numbers.specs.declared.Message.the-variants.{FlightResult, FlightResultV1, ClubResult}
-use Rattle.numbers.specs.Numbers.{countOf, wholeOf, ruleOf, ruleCode, scaleOf, to}
+use Rattle.numbers.specs.Numbers.{countOf, wholeOf, ruleOf, scaleOf, to}
+use Rattle.numbers.specs.Listing.{ruleCode}
 use Rattle.numbers.proofs.Divisors.{divisors, listed, kept}
 use Rattle.flight.specs.Decoding.{Numbers, numbersOf}
 use Rattle.flight.specs.ByList.{numbersIn, entryAt}

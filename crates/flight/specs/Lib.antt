@@ -1,4 +1,5 @@
 -- What the contracts of the decoders cite.
+-- A file of fields for each message, Decoding for their one rule; ByList is for private contracts.
 pub mod Decoding
 pub mod ByList
 pub mod FlightResultFields

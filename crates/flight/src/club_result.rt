@@ -81,41 +81,41 @@ impl ClubResult {
                 record: ClubResult::zero(),
             };
         }
-        let by = DIVISORS;
-        let s = scale(Message::ClubResult, int24_at(payload, 47));
+        let divisors = DIVISORS;
+        let scale = scale(Message::ClubResult, int24_at(payload, 47));
         ResultClubResult {
             result: ResultUnit::Ok,
-            record: ClubResult::of(payload, &by, s),
+            record: ClubResult::of(payload, &divisors, scale),
         }
     }
 
     // The record of a payload that is long enough, by these divisors and this scale: place and entry stand as numbers.
-    fn of(p: &[u8], by: &[u32; 138], s: f64) -> ClubResult
-        requires { ⌜ shapeOf Message.ClubResult .least ≤ length (now p) ⌝ }
-        ensures { λ r. ⌜ r ≡ clubResult (numbersIn Message.ClubResult (now (p .entry)) (now (by .entry)) s) ⌝ }
+    fn of(payload: &[u8], divisors: &[u32; 138], scale: f64) -> ClubResult
+        requires { ⌜ shapeOf Message.ClubResult .least ≤ length (now payload) ⌝ }
+        ensures { λ r. ⌜ r ≡ clubResult (numbersIn Message.ClubResult (now (payload .entry)) (now (divisors .entry)) scale) ⌝ }
     {
         ClubResult {
-            num_club_prc_points: byte_at(p, 1),
-            flags: int24_at(p, 2),
-            pre_club_speed: figure_at(p, 5, by, 84, s),
-            post_club_speed: figure_at(p, 8, by, 85, s),
-            strike_direction: figure_at(p, 11, by, 86, s),
-            attack_angle: figure_at(p, 14, by, 87, s),
-            face_angle: figure_at(p, 17, by, 88, s),
-            dynamic_loft: figure_at(p, 20, by, 89, s),
-            smash_factor: figure_at(p, 23, by, 90, s),
-            dispersion_correction: figure_at(p, 26, by, 91, s),
-            swing_plane_horizontal: figure_at(p, 29, by, 92, s),
-            swing_plane_vertical: figure_at(p, 32, by, 93, s),
-            club_azimuth: figure_at(p, 35, by, 94, s),
-            club_elevation: figure_at(p, 38, by, 95, s),
-            club_offset: figure_at(p, 41, by, 96, s),
-            club_height: figure_at(p, 44, by, 97, s),
-            poly_scale: int24_at(p, 47),
-            poly_coeffs: figures36(p, 50, by[99], s),
-            pre_impact_time: figure_at(p, 158, by, 135, s),
-            post_impact_time: figure_at(p, 161, by, 136, s),
-            club_to_ball_time: figure_at(p, 164, by, 137, s),
+            num_club_prc_points: byte_at(payload, 1),
+            flags: int24_at(payload, 2),
+            pre_club_speed: figure_at(payload, 5, divisors, 84, scale),
+            post_club_speed: figure_at(payload, 8, divisors, 85, scale),
+            strike_direction: figure_at(payload, 11, divisors, 86, scale),
+            attack_angle: figure_at(payload, 14, divisors, 87, scale),
+            face_angle: figure_at(payload, 17, divisors, 88, scale),
+            dynamic_loft: figure_at(payload, 20, divisors, 89, scale),
+            smash_factor: figure_at(payload, 23, divisors, 90, scale),
+            dispersion_correction: figure_at(payload, 26, divisors, 91, scale),
+            swing_plane_horizontal: figure_at(payload, 29, divisors, 92, scale),
+            swing_plane_vertical: figure_at(payload, 32, divisors, 93, scale),
+            club_azimuth: figure_at(payload, 35, divisors, 94, scale),
+            club_elevation: figure_at(payload, 38, divisors, 95, scale),
+            club_offset: figure_at(payload, 41, divisors, 96, scale),
+            club_height: figure_at(payload, 44, divisors, 97, scale),
+            poly_scale: int24_at(payload, 47),
+            poly_coeffs: figures36(payload, 50, divisors[99], scale),
+            pre_impact_time: figure_at(payload, 158, divisors, 135, scale),
+            post_impact_time: figure_at(payload, 161, divisors, 136, scale),
+            club_to_ball_time: figure_at(payload, 164, divisors, 137, scale),
         }
     }
 

@@ -1,5 +1,5 @@
-// Figures of a payload p by place: each INT24 is divided by its entry k in the list `by`.
-// Where an entry is 1 it stands for the scale s. A row is read from its own part, so no number is tested for length.
+// Figures of a payload by place: each INT24 is divided by its entry in a list of divisors, where 1 stands for the scale.
+// A row is read from its own part, so no number is tested for length.
 ghost use mathlib.Core.Path.{_≡_};
 ghost use Prim.Native.Nat.{_+_, _*_, _<_, _≤_};
 ghost use lib.ListN.{length};
@@ -9,50 +9,68 @@ ghost use Rattle.flight.specs.ByList.{divided, figureIn};
 use integer::int24_at;
 use numbers::figure;
 
-pub(crate) fn figure_at(p: &[u8], at: usize, by: &[u32; 138], k: usize, s: f64) -> f64
-    requires { ⌜ k < 138 ⌝ }
-    ensures { λ r. ⌜ r ≡ figureIn (now (p .entry)) (now (by .entry)) s at k ⌝ }
+pub(crate) fn figure_at(
+    payload: &[u8],
+    at: usize,
+    divisors: &[u32; 138],
+    index: usize,
+    scale: f64,
+) -> f64
+    requires { ⌜ index < 138 ⌝ }
+    ensures { λ r. ⌜ r ≡ figureIn (now (payload .entry)) (now (divisors .entry)) scale at index ⌝ }
 {
-    figure(int24_at(p, at), by[k], s)
+    figure(int24_at(payload, at), divisors[index], scale)
 }
 
-pub(crate) fn figures3(p: &[u8], at: usize, by: &[u32; 138], k: usize, s: f64) -> [f64; 3]
-    requires { ⌜ (at + 9 ≤ length (now p)) × (k + 2 < 138) ⌝ }
-    ensures { λ r. ⌜ r ≡ row 3 (λ j. figureIn (now (p .entry)) (now (by .entry)) s (at + 3 * j) (k + j)) ⌝ }
+pub(crate) fn figures3(
+    payload: &[u8],
+    at: usize,
+    divisors: &[u32; 138],
+    index: usize,
+    scale: f64,
+) -> [f64; 3]
+    requires { ⌜ (at + 9 ≤ length (now payload)) × (index + 2 < 138) ⌝ }
+    ensures { λ r. ⌜ r ≡ row 3 (λ j. figureIn (now (payload .entry)) (now (divisors .entry)) scale (at + 3 * j) (index + j)) ⌝ }
 {
-    let e = &p[at..at + 9];
+    let part = &payload[at..at + 9];
     [
-        figure_at(e, 0, by, k, s),
-        figure_at(e, 3, by, k + 1, s),
-        figure_at(e, 6, by, k + 2, s),
+        figure_at(part, 0, divisors, index, scale),
+        figure_at(part, 3, divisors, index + 1, scale),
+        figure_at(part, 6, divisors, index + 2, scale),
     ]
 }
 
-pub(crate) fn figures5(p: &[u8], at: usize, by: &[u32; 138], k: usize, s: f64) -> [f64; 5]
-    requires { ⌜ (at + 15 ≤ length (now p)) × (k + 4 < 138) ⌝ }
-    ensures { λ r. ⌜ r ≡ row 5 (λ j. figureIn (now (p .entry)) (now (by .entry)) s (at + 3 * j) (k + j)) ⌝ }
+pub(crate) fn figures5(
+    payload: &[u8],
+    at: usize,
+    divisors: &[u32; 138],
+    index: usize,
+    scale: f64,
+) -> [f64; 5]
+    requires { ⌜ (at + 15 ≤ length (now payload)) × (index + 4 < 138) ⌝ }
+    ensures { λ r. ⌜ r ≡ row 5 (λ j. figureIn (now (payload .entry)) (now (divisors .entry)) scale (at + 3 * j) (index + j)) ⌝ }
 {
-    let e = &p[at..at + 15];
+    let part = &payload[at..at + 15];
     [
-        figure_at(e, 0, by, k, s),
-        figure_at(e, 3, by, k + 1, s),
-        figure_at(e, 6, by, k + 2, s),
-        figure_at(e, 9, by, k + 3, s),
-        figure_at(e, 12, by, k + 4, s),
+        figure_at(part, 0, divisors, index, scale),
+        figure_at(part, 3, divisors, index + 1, scale),
+        figure_at(part, 6, divisors, index + 2, scale),
+        figure_at(part, 9, divisors, index + 3, scale),
+        figure_at(part, 12, divisors, index + 4, scale),
     ]
 }
 
-// 36 figures in a row that have one entry, d.
-pub(crate) fn figures36(p: &[u8], at: usize, d: u32, s: f64) -> [f64; 36]
-    requires { ⌜ at + 108 ≤ length (now p) ⌝ }
-    ensures { λ r. ⌜ r ≡ row 36 (λ j. divided d s (intAt 3 (now (p .entry)) (at + 3 * j))) ⌝ }
+// 36 figures in a row that have one divisor.
+pub(crate) fn figures36(payload: &[u8], at: usize, divisor: u32, scale: f64) -> [f64; 36]
+    requires { ⌜ at + 108 ≤ length (now payload) ⌝ }
+    ensures { λ r. ⌜ r ≡ row 36 (λ j. divided divisor scale (intAt 3 (now (payload .entry)) (at + 3 * j))) ⌝ }
 {
-    let e = &p[at..at + 108];
-    let mut xs = [0.0; 36];
+    let part = &payload[at..at + 108];
+    let mut figures = [0.0; 36];
     let mut j = 0usize;
     while j < 36 {
-        xs[j] = figure(int24_at(e, 3 * j), d, s);
+        figures[j] = figure(int24_at(part, 3 * j), divisor, scale);
         j += 1;
     }
-    xs
+    figures
 }

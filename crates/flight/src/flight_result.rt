@@ -106,50 +106,54 @@ impl FlightResult {
                 record: FlightResult::zero(),
             };
         }
-        let by = DIVISORS;
-        let s = scale(Message::FlightResult, int24_at(payload, 109));
+        let divisors = DIVISORS;
+        let scale = scale(Message::FlightResult, int24_at(payload, 109));
         ResultFlightResult {
             result: ResultUnit::Ok,
-            record: FlightResult::of(payload, &by, s),
+            record: FlightResult::of(payload, &divisors, scale),
         }
     }
 
     // The record of a payload that is long enough, by these divisors and this scale: place and entry stand as numbers.
-    fn of(p: &[u8], by: &[u32; 138], s: f64) -> FlightResult
-        requires { ⌜ shapeOf Message.FlightResult .least ≤ length (now p) ⌝ }
-        ensures { λ r. ⌜ r ≡ flightResult (numbersIn Message.FlightResult (now (p .entry)) (now (by .entry)) s) ⌝ }
+    fn of(payload: &[u8], divisors: &[u32; 138], scale: f64) -> FlightResult
+        requires { ⌜ shapeOf Message.FlightResult .least ≤ length (now payload) ⌝ }
+        ensures { λ r. ⌜ r ≡ flightResult (numbersIn Message.FlightResult (now (payload .entry)) (now (divisors .entry)) scale) ⌝ }
     {
         FlightResult {
-            total: int24_at(p, 1),
-            track_time: figure_at(p, 4, by, 1, s),
-            start_position: figures3(p, 7, by, 2, s),
-            launch_speed: figure_at(p, 16, by, 5, s),
-            launch_azimuth: figure_at(p, 19, by, 6, s),
-            launch_elevation: figure_at(p, 22, by, 7, s),
-            carry_distance: figure_at(p, 25, by, 8, s),
-            flight_time: figure_at(p, 28, by, 9, s),
-            max_height: figure_at(p, 31, by, 10, s),
-            landing_position: figures3(p, 34, by, 11, s),
-            backspin_rpm: int24_at(p, 43),
-            sidespin_rpm: int24_at(p, 46),
-            riflespin_rpm: int24_at(p, 49),
-            landing_spin_rpm: [int24_at(p, 52), int24_at(p, 55), int24_at(p, 58)],
-            landing_velocity: figures3(p, 61, by, 20, s),
-            total_distance: figure_at(p, 70, by, 23, s),
-            roll_distance: figure_at(p, 73, by, 24, s),
-            final_position: figures3(p, 76, by, 25, s),
-            clubhead_speed: figure_at(p, 85, by, 28, s),
-            club_strike_direction: figure_at(p, 88, by, 29, s),
-            club_attack_angle: figure_at(p, 91, by, 30, s),
-            clubhead_speed_post: figure_at(p, 94, by, 31, s),
-            club_swing_plane_tilt: figure_at(p, 97, by, 32, s),
-            club_swing_plane_rotation: figure_at(p, 100, by, 33, s),
-            club_effective_loft: figure_at(p, 103, by, 34, s),
-            club_face_angle: figure_at(p, 106, by, 35, s),
-            poly_scale: int24_at(p, 109),
-            poly_x: figures5(p, 112, by, 37, s),
-            poly_y: figures5(p, 127, by, 42, s),
-            poly_z: figures5(p, 142, by, 47, s),
+            total: int24_at(payload, 1),
+            track_time: figure_at(payload, 4, divisors, 1, scale),
+            start_position: figures3(payload, 7, divisors, 2, scale),
+            launch_speed: figure_at(payload, 16, divisors, 5, scale),
+            launch_azimuth: figure_at(payload, 19, divisors, 6, scale),
+            launch_elevation: figure_at(payload, 22, divisors, 7, scale),
+            carry_distance: figure_at(payload, 25, divisors, 8, scale),
+            flight_time: figure_at(payload, 28, divisors, 9, scale),
+            max_height: figure_at(payload, 31, divisors, 10, scale),
+            landing_position: figures3(payload, 34, divisors, 11, scale),
+            backspin_rpm: int24_at(payload, 43),
+            sidespin_rpm: int24_at(payload, 46),
+            riflespin_rpm: int24_at(payload, 49),
+            landing_spin_rpm: [
+                int24_at(payload, 52),
+                int24_at(payload, 55),
+                int24_at(payload, 58),
+            ],
+            landing_velocity: figures3(payload, 61, divisors, 20, scale),
+            total_distance: figure_at(payload, 70, divisors, 23, scale),
+            roll_distance: figure_at(payload, 73, divisors, 24, scale),
+            final_position: figures3(payload, 76, divisors, 25, scale),
+            clubhead_speed: figure_at(payload, 85, divisors, 28, scale),
+            club_strike_direction: figure_at(payload, 88, divisors, 29, scale),
+            club_attack_angle: figure_at(payload, 91, divisors, 30, scale),
+            clubhead_speed_post: figure_at(payload, 94, divisors, 31, scale),
+            club_swing_plane_tilt: figure_at(payload, 97, divisors, 32, scale),
+            club_swing_plane_rotation: figure_at(payload, 100, divisors, 33, scale),
+            club_effective_loft: figure_at(payload, 103, divisors, 34, scale),
+            club_face_angle: figure_at(payload, 106, divisors, 35, scale),
+            poly_scale: int24_at(payload, 109),
+            poly_x: figures5(payload, 112, divisors, 37, scale),
+            poly_y: figures5(payload, 127, divisors, 42, scale),
+            poly_z: figures5(payload, 142, divisors, 47, scale),
         }
     }
 

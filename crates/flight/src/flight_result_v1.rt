@@ -83,39 +83,39 @@ impl FlightResultV1 {
                 record: FlightResultV1::zero(),
             };
         }
-        let by = DIVISORS;
-        let s = scale(Message::FlightResultV1, int24_at(payload, 46));
+        let divisors = DIVISORS;
+        let scale = scale(Message::FlightResultV1, int24_at(payload, 46));
         ResultFlightResultV1 {
             result: ResultUnit::Ok,
-            record: FlightResultV1::of(payload, &by, s),
+            record: FlightResultV1::of(payload, &divisors, scale),
         }
     }
 
     // The record of a payload that is long enough, by these divisors and this scale: place and entry stand as numbers.
-    fn of(p: &[u8], by: &[u32; 138], s: f64) -> FlightResultV1
-        requires { ⌜ shapeOf Message.FlightResultV1 .least ≤ length (now p) ⌝ }
-        ensures { λ r. ⌜ r ≡ flightResultV1 (numbersIn Message.FlightResultV1 (now (p .entry)) (now (by .entry)) s) ⌝ }
+    fn of(payload: &[u8], divisors: &[u32; 138], scale: f64) -> FlightResultV1
+        requires { ⌜ shapeOf Message.FlightResultV1 .least ≤ length (now payload) ⌝ }
+        ensures { λ r. ⌜ r ≡ flightResultV1 (numbersIn Message.FlightResultV1 (now (payload .entry)) (now (divisors .entry)) scale) ⌝ }
     {
         FlightResultV1 {
-            total: int24_at(p, 1),
-            club_velocity: figure_at(p, 4, by, 53, s),
-            ball_velocity: figure_at(p, 7, by, 54, s),
-            flight_time: figure_at(p, 10, by, 55, s),
-            distance: figure_at(p, 13, by, 56, s),
-            height: figure_at(p, 16, by, 57, s),
-            lateral: figure_at(p, 19, by, 58, s),
-            elevation: figure_at(p, 22, by, 59, s),
-            azimuth: figure_at(p, 25, by, 60, s),
-            tracked_time: figure_at(p, 28, by, 61, s),
-            drag: figure_at(p, 31, by, 62, s),
-            backspin_rpm: int24_at(p, 34),
-            sidespin_rpm: int24_at(p, 37),
-            acceleration: figure_at(p, 40, by, 65, s),
-            club_strike_direction: figure_at(p, 43, by, 66, s),
-            poly_scale: int24_at(p, 46),
-            poly_x: figures5(p, 49, by, 68, s),
-            poly_y: figures5(p, 64, by, 73, s),
-            poly_z: figures5(p, 79, by, 78, s),
+            total: int24_at(payload, 1),
+            club_velocity: figure_at(payload, 4, divisors, 53, scale),
+            ball_velocity: figure_at(payload, 7, divisors, 54, scale),
+            flight_time: figure_at(payload, 10, divisors, 55, scale),
+            distance: figure_at(payload, 13, divisors, 56, scale),
+            height: figure_at(payload, 16, divisors, 57, scale),
+            lateral: figure_at(payload, 19, divisors, 58, scale),
+            elevation: figure_at(payload, 22, divisors, 59, scale),
+            azimuth: figure_at(payload, 25, divisors, 60, scale),
+            tracked_time: figure_at(payload, 28, divisors, 61, scale),
+            drag: figure_at(payload, 31, divisors, 62, scale),
+            backspin_rpm: int24_at(payload, 34),
+            sidespin_rpm: int24_at(payload, 37),
+            acceleration: figure_at(payload, 40, divisors, 65, scale),
+            club_strike_direction: figure_at(payload, 43, divisors, 66, scale),
+            poly_scale: int24_at(payload, 46),
+            poly_x: figures5(payload, 49, divisors, 68, scale),
+            poly_y: figures5(payload, 64, divisors, 73, scale),
+            poly_z: figures5(payload, 79, divisors, 78, scale),
         }
     }
 

@@ -6,11 +6,12 @@ use Prim.Native.Nat.{ℕ, _<_, _≤_}
 use lib.ListN.{length}
 use lib.Ieee.{Float}
 use borrow.Author.Tests.{lt-ltb, le-ltb}
-use Rattle.error.specs.Refusal.{Told, yes, no}
+use Rattle.error.specs.Refusal.{yes, no}
 use Rattle.integer.specs.Fields.{scaledBy}
 use Rattle.numbers.specs.declared.Message.{Message}
 use Rattle.numbers.specs.declared.Shape.{Shape}
-use Rattle.numbers.specs.Numbers.{shapeOf, ruleOf, entryOf, wholeOf, scaleOf, figureOf, ruleCode}
+use Rattle.numbers.specs.Numbers.{shapeOf, ruleOf, entryOf, wholeOf, scaleOf, figureOf}
+use Rattle.numbers.specs.Listing.{ruleCode}
 use Rattle.numbers.specs.Asked.{whole, figure, fieldRule, numberAt}
 use Rattle.numbers.proofs.Laws.{counted, divided}
 use Rattle.numbers.proofs.Divisors.{kept}

@@ -88,14 +88,6 @@ figureOf m p n = scaledBy (divisorOf (ruleOf m n) (scaleOf m p)) (wholeOf m p n)
 
 -- ---- the list of divisors
 
--- how the list writes a rule: 0 for a count, 1 for the scale
-abbrev pub ruleCode : Rule → ℕ
-ruleCode count = 0
-ruleCode hundredths = 100
-ruleCode thousandths = 1000
-ruleCode millionths = 1000000
-ruleCode scaled = 1
-
 -- the divisor that an entry of the list stands for
 abbrev pub entryOf : ℕ → Float → Float
 entryOf d s = cond (eqb d 1) s (float (pos d))

@@ -1,9 +1,10 @@
-// D4, E8 and ED by number: the list of their divisors, and a field asked for by its number.
+// D4, E8 and ED by number: their shapes, the list of their divisors, and a field asked for by its number.
 // The list keeps document 01's rule (proofs/Divisors); the decoders and `field_at` divide by it.
 ghost use mathlib.Core.Path.{_≡_};
 ghost use Prim.Native.Nat.{_<_};
 ghost use Rattle.integer.specs.Fields.{scaledBy};
-ghost use Rattle.numbers.specs.Numbers.{shapeOf, countOf, wholeOf, ruleOf, entryOf, float, scaleRule, ruleCode};
+ghost use Rattle.numbers.specs.Numbers.{shapeOf, countOf, wholeOf, ruleOf, entryOf, float, scaleRule};
+ghost use Rattle.numbers.specs.Listing.{ruleCode};
 ghost use Rattle.numbers.specs.Asked.{toldField, fieldRule};
 
 mod table;
@@ -98,13 +99,13 @@ pub fn field_at(message: Message, payload: &[u8], number: usize) -> Field
     if count <= number {
         return Field::NoField { number };
     }
-    let z = whole(message, payload, number);
-    let d = divisor(message, number);
-    if d == 0 {
-        return Field::Count(z);
+    let value = whole(message, payload, number);
+    let divisor = divisor(message, number);
+    if divisor == 0 {
+        return Field::Count(value);
     }
-    let s = scale(message, whole(message, payload, shape.scale));
-    Field::Figure(figure(z, d, s))
+    let scale = scale(message, whole(message, payload, shape.scale));
+    Field::Figure(figure(value, divisor, scale))
 }
 
 // The shape of a message.

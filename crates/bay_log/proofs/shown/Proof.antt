@@ -1,6 +1,6 @@
 -- `shown` meets its contract: the machine's division is toward zero.
+-- A hundredth of a number in range is in range.
 use Prim.Native.Nat.{ℕ, zero, suc, _/_, _<_, _^_}
-use mathlib.Core.Path.{_≡_, _∙_, ap}
 use native.Mathlib.Omega.{arith}
 use lib.Dec.{lit<}
 use lib.IntN.{ℤ, pos, negsuc, negℤ}

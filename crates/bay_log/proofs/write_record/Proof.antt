@@ -1,4 +1,5 @@
 -- `write_record` meets its contract: the two refusals in their order, then the nine fields.
+-- The nine writes, one behind the other, are the record (proofs/Record).
 use borrow.Author.Needs.{needs}
 use borrow.Author.Tests.{lt-ltb, le-ltb}
 use mathlib.Core.Path.{_≡_, _∙_, ap}

@@ -1,4 +1,5 @@
 -- `write_shown` meets its contract: the number read, shown and written.
+-- Each of the three calls' contracts passes its number on.
 use borrow.Author.Needs.{needs}
 use mathlib.Core.Path.{_∙_, ap}
 use lib.IntN.{ℤ}

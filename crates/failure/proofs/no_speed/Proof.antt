@@ -1,4 +1,5 @@
 -- `no_speed` meets its contract: a float differs from itself exactly where it is not a number.
+-- So the code's first test is the rule's first case, and its second the other.
 use mathlib.Core.Path.{_≡_, refl, sym, _∙_, ap, subst}
 use mathlib.Core.Bool.{Bool, true, false}
 use lib.Dec.{T}

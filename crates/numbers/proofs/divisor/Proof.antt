@@ -1,4 +1,5 @@
 -- `divisor` meets its contract: the list's entry is the rule's code.
+-- The message's entries start at its shape's `first`, and `listed` reads them.
 use borrow.Author.Needs.{needs}
 use mathlib.Core.Path.{_≡_, _∙_, ap}
 use Prim.Native.Nat.{ℕ, _+_, _<_}

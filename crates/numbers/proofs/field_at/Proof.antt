@@ -1,7 +1,8 @@
 -- `field_at` meets its contract: the two refusals in their order, then the list's entry decides.
+-- Each of the four answers is a law of proofs/Told.
 use borrow.Author.Needs.{needs}
 use mir.Syntax.{w32}
-use mathlib.Core.Path.{_≡_, _∙_, ap, sym}
+use mathlib.Core.Path.{_∙_, ap}
 use lib.IntN.{ℤ}
 use lib.Ieee.{Float}
 use Rattle.error.specs.Refusal.{yes}

@@ -1,4 +1,5 @@
 -- `figure` meets its contract: the numbers are divided as floats, and each stands exactly.
+-- An entry of 1 takes the scale; that is the only test.
 use borrow.Author.Needs.{needs}
 use borrow.Author.Tests.{eq-eqb, ne-eqb}
 use mir.Facts.{toZ-ofZ}

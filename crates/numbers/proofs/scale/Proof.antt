@@ -1,4 +1,5 @@
 -- `scale` meets its contract, message by message and test by test.
+-- D4 and ED change 0 alone, E8 all that is below 1.
 use borrow.Author.Needs.{needs}
 use mathlib.Core.Path.{_≡_, _∙_, ap, sym}
 use lib.IntN.{ℤ}

@@ -1,4 +1,5 @@
 -- `shape_of` meets its contract, message by message.
+-- Each arm is the constant of its message, and that is the specified shape.
 use borrow.Author.Needs.{needs}
 use mathlib.Core.Path.{sym, ap}
 use Rattle.numbers.specs.Numbers.{shapeOf}

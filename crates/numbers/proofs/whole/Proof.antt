@@ -1,4 +1,5 @@
 -- `whole` meets its contract: INT24 at the number's place.
+-- Place and sum stay small, since no message has more than 55 numbers.
 use borrow.Author.Needs.{needs}
 use mir.Syntax.{w32}
 use mathlib.Core.Path.{_∙_, ap}

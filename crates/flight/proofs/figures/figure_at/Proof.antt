@@ -1,4 +1,5 @@
 -- `figure_at` meets its contract: the number that stands there, divided.
+-- The entry is the list's, wherever the list comes from.
 use borrow.Author.Needs.{needs}
 use mathlib.Core.Path.{_∙_, ap}
 use lib.ListN.{getD}
@@ -12,7 +13,7 @@ returns : tie.Need-returns
 returns c =
     let z = c .before .before in
     let a = z .before .before .args in
-    c .figure .ensures ∙ ap (divided (getD (a .by .now) (a .k) 0) (a .s)) (held w32 (z .int24-at .ensures) (z .int24-at .ok))
+    c .figure .ensures ∙ ap (divided (getD (a .divisors .now) (a .index) 0) (a .scale)) (held w32 (z .int24-at .ensures) (z .int24-at .ok))
 
 pub figure-at-spec : {M : Type 1} → statement M
 figure-at-spec =

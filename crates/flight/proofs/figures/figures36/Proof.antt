@@ -1,13 +1,11 @@
 -- `figures36` meets its contract. The loop's invariant: the first j figures stand in their places.
 -- The measure is what is left of 36.
 use mathlib.Core.Path.{_≡_, _∙_, ap}
-use mathlib.Core.Bool.{false}
 use mathlib.Core.List.{List}
 use Prim.Native.Nat.{ℕ, _+_, _*_, _-_, _≤_}
 use native.Mathlib.Omega.{arith}
 use borrow.Author.Needs.{needs}
-use lib.IntN.{pos}
-use lib.Ieee.{Float, fin, ofBits}
+use lib.Ieee.{Float, ofBits}
 use mir.Syntax.{w32}
 use Rattle.general.specs.Number.{zeroF}
 use Rattle.integer.specs.Fields.{intAt}
@@ -38,10 +36,10 @@ loop-again c =
     let z = c .before in
     let l = z .before .before in
     let a = l .before .before .before .args in
-    let part = int-part (a .p .now) (a .at + 108 - a .at) (a .at) 3 (3 * l .loop .j) (omega arith) in (
+    let part = int-part (a .payload .now) (a .at + 108 - a .at) (a .at) 3 (3 * l .loop .j) (omega arith) in (
       omega arith,
-      filled-more (placed (a .p .now) (a .at) (a .d) (a .s)) zeroF (l .loop .inv .1) (omega arith)
-          (c .figure .ensures ∙ ap (divided (a .d) (a .s)) (held w32 (z .int24-at .ensures ∙ part) (z .int24-at .ok))),
+      filled-more (placed (a .payload .now) (a .at) (a .divisor) (a .scale)) zeroF (l .loop .inv .1) (omega arith)
+          (c .figure .ensures ∙ ap (divided (a .divisor) (a .scale)) (held w32 (z .int24-at .ensures ∙ part) (z .int24-at .ok))),
     )
 
 returns : tie.Need-returns Inv-loop μ-loop
@@ -49,7 +47,7 @@ returns c =
     let a = c .before .before .before .before .args in
     let j : c .before .loop .j ≡ 36 = omega arith in
     filled-is _ zeroF (c .before .loop .inv .1)
-    ∙ ap (λ (n : ℕ). row 36 (ending (placed (a .p .now) (a .at) (a .d) (a .s)) zeroF n)) j
+    ∙ ap (λ (n : ℕ). row 36 (ending (placed (a .payload .now) (a .at) (a .divisor) (a .scale)) zeroF n)) j
 
 pub figures36-spec : {M : Type 1} → statement M
 figures36-spec =

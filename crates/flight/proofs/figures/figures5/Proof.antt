@@ -1,4 +1,5 @@
 -- `figures5` meets its contract: each call's answer in its place, read in the part that is the row.
+-- A place in the part is the same place further on in the payload.
 use borrow.Author.Needs.{needs}
 use mathlib.Core.Path.{_≡_, _∙_, ap}
 use mathlib.Core.List.{[], _∷_}
@@ -17,15 +18,15 @@ returns c =
     let c1 = c2 .before in
     let c0 = c1 .before in
     let a = c0 .before .before .before .args in
-    let p = a .p .now in
-    let part = figure-part p (a .at + 15 - a .at) (a .at) (a .by .now) (a .s) in
-    let same : a .k ≡ a .k + 0 = omega arith in
+    let p = a .payload .now in
+    let part = figure-part p (a .at + 15 - a .at) (a .at) (a .divisors .now) (a .scale) in
+    let same : a .index ≡ a .index + 0 = omega arith in
     λ i.
-    (part 0 (a .k) _ (omega arith) (c0 .figure-at .ensures) ∙ ap (figureIn p (a .by .now) (a .s) (a .at + 0)) same) i
-    ∷ part 3 (a .k + 1) _ (omega arith) (c1 .figure-at2 .ensures) i
-    ∷ part 6 (a .k + 2) _ (omega arith) (c2 .figure-at3 .ensures) i
-    ∷ part 9 (a .k + 3) _ (omega arith) (c3 .figure-at4 .ensures) i
-    ∷ part 12 (a .k + 4) _ (omega arith) (c4 .figure-at5 .ensures) i
+    (part 0 (a .index) _ (omega arith) (c0 .figure-at .ensures) ∙ ap (figureIn p (a .divisors .now) (a .scale) (a .at + 0)) same) i
+    ∷ part 3 (a .index + 1) _ (omega arith) (c1 .figure-at2 .ensures) i
+    ∷ part 6 (a .index + 2) _ (omega arith) (c2 .figure-at3 .ensures) i
+    ∷ part 9 (a .index + 3) _ (omega arith) (c3 .figure-at4 .ensures) i
+    ∷ part 12 (a .index + 4) _ (omega arith) (c4 .figure-at5 .ensures) i
     ∷ []
 
 pub figures5-spec : {M : Type 1} → statement M

@@ -1,4 +1,5 @@
 -- `FlightResult::of` meets its contract: each number and figure in the field of its name.
+-- A row's call asks that the row lies inside, which the least length gives.
 use borrow.Author.Needs.{needs}
 use mathlib.Core.List.{[], _∷_}
 use native.Mathlib.Omega.{arith}

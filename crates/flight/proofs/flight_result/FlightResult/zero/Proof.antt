@@ -1,4 +1,5 @@
 -- `FlightResult::zero` meets its contract: by computation.
+-- The record of a refusal is filled with zeros, field by field.
 use mathlib.Core.Path.{refl}
 use lib.Ieee.{ofBits}
 use Rattle.flight.proofs.flight_result.FlightResult.zero.Statement.{statement}

@@ -1,4 +1,5 @@
 -- `FlightResultV1::decode` meets its contract: the length decides, and the numbers read by the list are the message's.
+-- `(λ N. refl)` shows that no field takes a count for a figure; the list's law does the rest.
 use borrow.Author.Needs.{needs}
 use mathlib.Core.Path.{refl}
 use Rattle.numbers.specs.declared.Message.the-variants as message
