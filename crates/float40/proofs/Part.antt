@@ -1,39 +1,15 @@
 -- A FLOAT40 at a place is the one at the front of the part that starts there and has its five bytes.
 -- So a read of a part is a read of the whole, and past the end it is +0.0.
-use Prim.Native.Nat.{ℕ, zero, suc, _+_, _*_, _≤_}
-use mathlib.Core.Path.{_≡_, refl, ap, _∙_}
+use Prim.Native.Nat.{ℕ, _+_, _≤_}
+use mathlib.Core.Path.{_≡_, ap, _∙_}
 use mathlib.Core.List.{List}
 use native.Mathlib.Omega.{arith}
 use lib.IntN.{ℤ, pos}
 use lib.ListN.{length, take, drop}
-use lib.Seq.{getD-take, getD-drop}
 use Rattle.integer.specs.Fields.{beAt, signed, intAt}
 use Rattle.integer.proofs.BigEndian.{be-zeros}
+use Rattle.integer.proofs.Part.{int-drop, int-take}
 use Rattle.float40.specs.Float40.{value40, float40At}
-
--- ---- fields of a part, over the width
-
-be-drop : (k n : ℕ) (s : List ℕ) (at : ℕ) → beAt k (drop n s) at ≡ beAt k s (n + at)
-unfolding beAt
-be-drop zero n s at = refl
-be-drop (suc k) n s at =
-    let e : n + (at + k) ≡ n + at + k = omega arith in
-    rw (be-drop k n s at, getD-drop n s (at + k) 0, e)
-
-be-take : (k n : ℕ) (s : List ℕ) (at : ℕ) → at + k ≤ n → beAt k (take n s) at ≡ beAt k s at
-unfolding beAt
-be-take zero n s at h = refl
-be-take (suc k) n s at h = rw (be-take k n s at (omega arith), getD-take n s (at + k) 0 (omega arith))
-
-int-drop : (k n : ℕ) (s : List ℕ) (at : ℕ) → intAt k (drop n s) at ≡ intAt k s (n + at)
-unfolding intAt
-int-drop k n s at = ap (signed (8 * k)) (be-drop k n s at)
-
-int-take : (k n : ℕ) (s : List ℕ) (at : ℕ) → at + k ≤ n → intAt k (take n s) at ≡ intAt k s at
-unfolding intAt
-int-take k n s at h = ap (signed (8 * k)) (be-take k n s at h)
-
--- ---- the FLOAT40
 
 pub from-place : (s : List ℕ) (at : ℕ) → float40At (drop at s) 0 ≡ float40At s at
 unfolding float40At

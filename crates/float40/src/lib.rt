@@ -1,12 +1,12 @@
 // FLOAT40, the wire's 40-bit float, read: exponent e (INT16), then mantissa m (INT24), worth m * 2^(e - 23).
 // Too short is refused with 7.
+mod power;
+
 ghost use mathlib.Core.Path.{_≡_};
-ghost use mathlib.Core.Bool.{false};
-ghost use Prim.Native.Nat.{_<_};
-ghost use lib.Ieee.{fin, minus};
 ghost use Rattle.error.specs.Result.{toldF64};
 ghost use Rattle.integer.specs.Fields.{reading};
-ghost use Rattle.float40.specs.Float40.{pow2, value40, float40At};
+ghost use Rattle.float40.specs.Float40.{value40, float40At};
+use crate::power::exp2;
 use error::ResultF64;
 use error::WireError;
 
@@ -49,29 +49,4 @@ fn front(data: &[u8]) -> f64
     let e = integer::int16_at(data, 0);
     let m = integer::int24_at(data, 2);
     float40_of(e, m)
-}
-
-// The float 2^k: exact from -1074 to 1023, +0.0 below and infinity above.
-fn exp2(k: i32) -> f64
-    ensures { λ r. ⌜ r ≡ pow2 k ⌝ }
-{
-    if k < -1074 {
-        return 0.0;
-    }
-    if 1023 < k {
-        return f64::from_bits(0x7FF0_0000_0000_0000);
-    }
-    two_to((k + 1074) as u64)
-}
-
-// The float 2^(j - 1074), made of its bits: subnormal below 2^-1022, and from there on an exponent field alone.
-fn two_to(j: u64) -> f64
-    requires { ⌜ j < 2098 ⌝ }
-    ensures { λ r. ⌜ r ≡ fin false 1 (minus j 1074) ⌝ }
-{
-    if j < 52 {
-        f64::from_bits(1u64 << j)
-    } else {
-        f64::from_bits((j - 51) << 52)
-    }
 }

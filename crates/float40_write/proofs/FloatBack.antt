@@ -1,7 +1,7 @@
 -- What `write_float40` wrote is read back, over the f64 that it was handed and by its contract as the check reads it off src/ (`Post`).
 -- A NaN reads as +infinity, an infinity as itself, both zeros as +0.0, a normal number as its 23 leading digits, a subnormal one as no such part of it.
 use Prim.Native.Nat.{ℕ, zero, suc, _+_, _-_, _*_, _%_, _^_, _<_, _≤_}
-use mathlib.Core.Path.{_≡_, refl, sym, ap, subst, _∙_}
+use mathlib.Core.Path.{_≡_, sym, ap, subst, _∙_}
 use mathlib.Core.Bool.{Bool, false}
 use mathlib.Core.List.{List}
 use mathlib.Core.Logic.{_⊎_, inl, inr}
@@ -9,7 +9,7 @@ use native.Mathlib.Omega.{arith}
 use native.Mathlib.Nat.{eq-of-mul-eq-mul-right, mul-assoc, mul-right-comm, mul-pos, zero-mul}
 use lib.Dec.{T}
 use lib.ListN.{length}
-use lib.IntN.{ℤ, pos, natAbs, _-ℤ_}
+use lib.IntN.{ℤ, natAbs}
 use lib.Pow.{pow-add, pow-pos}
 use lib.Ieee.{Float, nan, inf, fin, binary64, fits, up, down, minus, ofBits}
 use lib.Ieee.Bits.{ofBits-toBits}
@@ -21,7 +21,7 @@ use Rattle.general.specs.Number.{zeroF}
 use Rattle.general.proofs.Cases.{by-eq}
 use Rattle.integer.specs.Fields.{reading}
 use Rattle.float40.specs.Float40.{float40At}
-use Rattle.float40_write.specs.Writing.{signOf, fieldOf, fractionOf, exp40, man40, bits64, readBack}
+use Rattle.float40_write.specs.Writing.{signOf, fieldOf, fractionOf, man40, bits64, readBack}
 use Rattle.float40_write.proofs.Means.{normal-means, subnormal-means, infinite-means}
 use Rattle.float40_write.proofs.Back.{power, told-back, normal-back, subnormal-back, nan-back, inf-back, zero-back}
 use Rattle.float40_write.proofs.write_float40.Reads as write-float40

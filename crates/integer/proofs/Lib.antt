@@ -4,4 +4,5 @@ pub mod BigEndian
 pub mod Complement
 pub mod Casts
 pub mod Reading
+pub mod Part
 pub mod One

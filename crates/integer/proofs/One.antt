@@ -9,8 +9,8 @@ use Rattle.integer.proofs.int24_at.Reads as int24-at
 use Rattle.integer.proofs.uint24_at.Reads as uint24-at
 use Rattle.integer.proofs.int32_at.Reads as int32-at
 use Rattle.integer.proofs.uint32_at.Reads as uint32-at
-use Rattle.integer.proofs.within.Reads as within
-use Rattle.integer.proofs.need_at.Reads as need-at
+use Rattle.integer.proofs.place.within.Reads as within
+use Rattle.integer.proofs.place.need_at.Reads as need-at
 
 pub one-byte-at : (κs a r s x y : _) → byte-at.Post κs a r x → byte-at.Post κs a s y → r ≡ s
 one-byte-at κs a r s x y = plain

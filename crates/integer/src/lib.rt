@@ -1,10 +1,13 @@
 // The integer field at a place, big-endian and two's complement, for callers that tested the length.
-// A byte past the end counts as 0; `within` is that test, and `need_at` the need that a refusal names.
+// A byte past the end counts as 0; the test of a place is in `place`.
+mod place;
+
 ghost use mathlib.Core.Path.{_≡_};
 ghost use Prim.Native.Nat.{_+_, _*_, _^_, _<_, _≤_};
-ghost use lib.Dec.{leb};
 ghost use lib.ListN.{length, getD};
-ghost use Rattle.integer.specs.Fields.{beAt, signed, intAt, needAt};
+ghost use Rattle.integer.specs.Fields.{beAt, signed, intAt};
+pub use crate::place::need_at;
+pub use crate::place::within;
 
 // The byte at a place.
 pub fn byte_at(data: &[u8], offset: usize) -> u8
@@ -47,27 +50,6 @@ pub fn uint32_at(data: &[u8], offset: usize) -> u32
     ensures { λ r. ⌜ r ≡ beAt 4 (now («data» .entry)) offset ⌝ }
 {
     be_at(data, offset, 4)
-}
-
-// Whether k bytes at a place lie within len. No sum, so nothing to wrap; len - k is the same at every place.
-pub fn within(len: usize, offset: usize, k: usize) -> bool
-    ensures { λ r. ⌜ r ≡ leb (offset + k) len ⌝ }
-{
-    if len < k {
-        return false;
-    }
-    offset <= len - k
-}
-
-// The need of a field: place plus width, or the largest usize where that passes it.
-pub fn need_at(offset: usize, width: usize) -> usize
-    ensures { λ r. ⌜ r ≡ needAt width offset ⌝ }
-{
-    if offset <= 18446744073709551615 - width {
-        offset + width
-    } else {
-        18446744073709551615
-    }
 }
 
 // The signed number of k bytes: moved up to the sign bit of 32, and down again.

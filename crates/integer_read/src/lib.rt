@@ -19,19 +19,6 @@ use integer::uint24_at;
 use integer::uint32_at;
 use integer::within;
 
-// The kinds that refusal 7 names.
-const INT16: u8 = 1;
-
-const UINT16: u8 = 2;
-
-const INT24: u8 = 3;
-
-const UINT24: u8 = 4;
-
-const INT32: u8 = 5;
-
-const UINT32: u8 = 6;
-
 pub fn read_int16(data: &[u8], offset: usize) -> ResultI16
     ensures { λ r. ⌜ toldI16 r ≡ reading 1 2 (intAt 2) (now («data» .entry)) offset ⌝ }
 {
@@ -103,6 +90,19 @@ pub fn read_int16_scaled(data: &[u8], offset: usize, scale: f64) -> ResultF64
         ResultI16::Err(e) => ResultF64::Err(e),
     }
 }
+
+// The kinds that refusal 7 names.
+const INT16: u8 = 1;
+
+const UINT16: u8 = 2;
+
+const INT24: u8 = 3;
+
+const UINT24: u8 = 4;
+
+const INT32: u8 = 5;
+
+const UINT32: u8 = 6;
 
 // Refusal 7 where a field of that width and kind does not fit.
 fn check_len(data: &[u8], offset: usize, width: usize, kind: u8) -> ResultUnit

@@ -2,8 +2,8 @@
 -- A pattern that is a power's is no NaN's, so `from_bits` may be asked.
 use borrow.Author.Needs.{needs}
 use Rattle.float40.proofs.Pow2.{small-is, large-is, no-nan}
-use Rattle.float40.proofs.two_to.Statement.{statement}
-use Rattle.float40.proofs.two_to.Tie as tie
+use Rattle.float40.proofs.power.two_to.Statement.{statement}
+use Rattle.float40.proofs.power.two_to.Tie as tie
 
 shl-result : tie.Need-shl-result
 shl-result c = search needs

@@ -14,8 +14,8 @@ use mir.ValLaws.{toZ-ofZ}
 use Rattle.float40.specs.Float40.{pow2}
 use Rattle.float40.proofs.Signed.{counted}
 use Rattle.float40.proofs.Pow2.{pow2-low, pow2-high, pow2-in}
-use Rattle.float40.proofs.exp2.Statement.{statement}
-use Rattle.float40.proofs.exp2.Tie as tie
+use Rattle.float40.proofs.power.exp2.Statement.{statement}
+use Rattle.float40.proofs.power.exp2.Tie as tie
 
 -- a number as the machine reads it back
 abbrev held : ℤ → ℤ

@@ -5,8 +5,8 @@ use mathlib.Core.Path.{sym, _∙_}
 use native.Mathlib.Omega.{arith}
 use borrow.Author.Tests.{le-leb, lt-leb}
 use Rattle.general.proofs.Cases.{by-lt}
-use Rattle.integer.proofs.within.Statement.{statement}
-use Rattle.integer.proofs.within.Tie as tie
+use Rattle.integer.proofs.place.within.Statement.{statement}
+use Rattle.integer.proofs.place.within.Tie as tie
 
 returns : tie.Need-returns
 returns c = let a = c .before .args in sym (lt-leb (a .offset + a .k) (a .len) (omega arith))
