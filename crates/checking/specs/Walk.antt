@@ -1,4 +1,4 @@
--- Words for the private walks over a wire's interior; no public contract cites them.
+-- A client may skip this file: words for the private walks over a wire's interior, which no public contract cites.
 -- `Ends` is where the checksum starts, `frontRule` what is tested and told of the bytes before it.
 use Prim.Native.Nat.{ℕ, _+_, _≤_}
 use mathlib.Core.Path.{_≡_}
@@ -18,7 +18,7 @@ pub record Ends (s : List ℕ) (at : ℕ) : Type 0 where
   pub sum : Proper (drop at s)
   pub two : kept (drop at s) ≡ 2
 
--- DEST, andThen SRC: of what precedes the checksum, which starts at a place, with the payload's length
+-- DEST, then SRC: of what precedes the checksum, which starts at a place, with the payload's length
 unfoldable pub frontRule : ℕ → ℕ → List (ℕ × ℕ) → Told Head
 frontRule len at us =
     andThen (addressRule (byteAt us 0))

@@ -7,7 +7,7 @@ ghost use lib.Seq.{sets};
 ghost use Rattle.error.specs.Refusal.{onYes, filled};
 ghost use Rattle.error.specs.Result.{toldUsize};
 ghost use Rattle.stuffing.specs.Stuff.{escapeOf, stuffByte, stuff};
-ghost use Rattle.encoding.specs.Wire.{fields, csOf, wireOf};
+ghost use Rattle.encoding.specs.Wire.{fields, checksumOf, wireOf};
 ghost use Rattle.encoding.specs.Encode.{encodeRule};
 use addr::BusAddr;
 use blocks::block;
@@ -109,36 +109,44 @@ fn put_all(s: &[u8], buf: &mut [u8], at: usize) -> usize
 // The whole wire's length, and the checksum.
 struct Plan {
     need: usize,
-    cs: u16,
+    checksum: u16,
 }
 
 fn measure(dest: BusAddr, src: BusAddr, type_id: u8, payload: &[u8]) -> Plan
     requires { ⌜ length (now payload) ≤ 65535 ⌝ }
     ensures need { λ r. ⌜ r .need ≡ length (wireOf (fields dest src «type_id» (now (payload .entry)))) ⌝ }
-    ensures cs { λ r. ⌜ r .cs ≡ csOf (fields dest src «type_id» (now (payload .entry))) ⌝ }
+    ensures checksum { λ r. ⌜ r .checksum ≡ checksumOf (fields dest src «type_id» (now (payload .entry))) ⌝ }
 {
     let head = [dest.as_byte(), src.as_byte(), type_id];
     let h = tally(&head);
     let p = tally(payload);
-    let cs = std::num::wrapping_add_u16(h.sum, p.sum);
-    let tail = [(cs / 256) as u8, (cs % 256) as u8];
+    let checksum = std::num::wrapping_add_u16(h.sum, p.sum);
+    let tail = [(checksum / 256) as u8, (checksum % 256) as u8];
     let t = tally(&tail);
     Plan {
         need: payload.len() + 7 + h.more as usize + p.more as usize + t.more as usize,
-        cs,
+        checksum,
     }
 }
 
-fn put_wire(dest: BusAddr, src: BusAddr, type_id: u8, payload: &[u8], cs: u16, wire: &mut [u8])
-    requires { ⌜ (cs ≡ csOf (fields dest src «type_id» (now payload))) × (length (wireOf (fields dest src «type_id» (now payload))) ≤ length (now wire)) ⌝ }
+fn put_wire(
+    dest: BusAddr,
+    src: BusAddr,
+    type_id: u8,
+    payload: &[u8],
+    checksum: u16,
+    wire: &mut [u8],
+)
+    requires { ⌜ (checksum ≡ checksumOf (fields dest src «type_id» (now payload)))
+        × (length (wireOf (fields dest src «type_id» (now payload))) ≤ length (now wire)) ⌝ }
     ensures { λ r. ⌜ now (wire .exit) ≡ sets (now (wire .entry)) 0 (wireOf (fields dest src «type_id» (now (payload .entry)))) ⌝ }
 {
     let head = [dest.as_byte(), src.as_byte(), type_id];
-    let tail = [(cs / 256) as u8, (cs % 256) as u8];
+    let tail = [(checksum / 256) as u8, (checksum % 256) as u8];
     wire[0] = START;
     let at_payload = put_each(&head, wire, 1);
-    let at_cs = put_all(payload, wire, at_payload);
-    let at_end = put_each(&tail, wire, at_cs);
+    let at_checksum = put_all(payload, wire, at_payload);
+    let at_end = put_each(&tail, wire, at_checksum);
     wire[at_end] = END;
 }
 
@@ -151,7 +159,8 @@ pub fn encode(
     wire: &mut [u8],
 ) -> ResultUsize
     ensures reply { λ r. ⌜ toldUsize r ≡ onYes length (encodeRule (fields dest src «type_id» (now (payload .entry))) (length (now (wire .entry)))) ⌝ }
-    ensures bytes { λ r. ⌜ now (wire .exit) ≡ filled (encodeRule (fields dest src «type_id» (now (payload .entry))) (length (now (wire .entry)))) (now (wire .entry)) ⌝ }
+    ensures bytes { λ r. ⌜ now (wire .exit)
+        ≡ filled (encodeRule (fields dest src «type_id» (now (payload .entry))) (length (now (wire .entry)))) (now (wire .entry)) ⌝ }
 {
     let n = payload.len();
     if n > 65535 {
@@ -163,6 +172,6 @@ pub fn encode(
     if room < need {
         return ResultUsize::Err(WireError::NoRoom { need, got: room });
     }
-    put_wire(dest, src, type_id, payload, plan.cs, wire);
+    put_wire(dest, src, type_id, payload, plan.checksum, wire);
     ResultUsize::Ok(need)
 }

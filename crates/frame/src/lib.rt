@@ -44,7 +44,8 @@ impl RawFrame {
         wire: &mut [u8],
     ) -> ResultUsize
         ensures reply { λ r. ⌜ toldUsize r ≡ onYes length (encodeRule (fields dest src «type_id» (now (payload .entry))) (length (now (wire .entry)))) ⌝ }
-        ensures bytes { λ r. ⌜ now (wire .exit) ≡ filled (encodeRule (fields dest src «type_id» (now (payload .entry))) (length (now (wire .entry)))) (now (wire .entry)) ⌝ }
+        ensures bytes { λ r. ⌜ now (wire .exit)
+            ≡ filled (encodeRule (fields dest src «type_id» (now (payload .entry))) (length (now (wire .entry)))) (now (wire .entry)) ⌝ }
     {
         encoding::encode(dest, src, type_id, payload, wire)
     }
@@ -52,7 +53,8 @@ impl RawFrame {
     // The header of a wire and its payload's length; the payload fills the buffer's front.
     pub fn parse(wire: &[u8], payload: &mut [u8]) -> ResultRawFrame
         ensures reply { λ r. ⌜ toldRawFrame r ≡ onYes headerOf (parseRule (now (wire .entry)) (length (now (payload .entry)))) ⌝ }
-        ensures bytes { λ r. ⌜ now (payload .exit) ≡ filled (onYes (λ f. f .payload) (parseRule (now (wire .entry)) (length (now (payload .entry))))) (now (payload .entry)) ⌝ }
+        ensures bytes { λ r. ⌜ now (payload .exit)
+            ≡ filled (onYes (λ f. f .payload) (parseRule (now (wire .entry)) (length (now (payload .entry))))) (now (payload .entry)) ⌝ }
     {
         let checked = check(wire);
         match checked {

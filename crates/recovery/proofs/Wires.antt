@@ -11,8 +11,7 @@ use lib.Seq.{take-length}
 use borrow.Author.Tests.{eqb-true, le-leb}
 use Rattle.general.proofs.Cases.{by-test}
 use Rattle.frame.proofs.Wires.{Framed, wire-framed, written-is}
-use Rattle.stuffing.proofs.Stuffing.{has}
-use Rattle.search.specs.First.{indexOf}
+use Rattle.search.specs.First.{indexOf, has}
 use Rattle.stream.specs.Stream.{Frame, atLast, answerTo}
 use Rattle.stream.proofs.Line.{opened, hear, closes, opens-closes}
 use Rattle.recovery.specs.Recovery.{Sent, hasEnd, pending}

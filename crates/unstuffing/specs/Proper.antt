@@ -1,4 +1,4 @@
--- Words for the private walks over stuffed strings; no public contract cites them.
+-- A client may skip this file: words for the private walks over stuffed strings, which no public contract cites.
 -- A proper string is one that unstuffs (proofs/Proper): each FD in it is followed by a code.
 use Prim.Native.Nat.{ℕ, _+_}
 use mathlib.Core.Path.{_≡_}

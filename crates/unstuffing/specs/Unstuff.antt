@@ -1,4 +1,4 @@
--- Document 01, 'Frames': unstuffing goes left to right, and refuses the first escape that is none (4, its code and offset).
+-- Document 01, 'Frames': unstuffing goes left to right, and refuses the first wrong escape (4, its code and offset).
 -- `stepAt` is one step of it, `unstuff` all of them: each unstuffed byte with the offset where it starts.
 use Prim.Native.Nat.{ℕ, _+_}
 use mathlib.Core.Bool.{cond}

@@ -1,4 +1,4 @@
-// Unstuffing of frame.rs: FD and a code are one byte again; the first escape that is none is refused.
+// Unstuffing of frame.rs: FD and a code are one byte again; the first wrong escape is refused.
 // `unstuffed` counts the bytes that a string unstuffs to. Unstuffing what was stuffed gives it back (proofs/Unstuffing).
 ghost use mathlib.Core.Path.{_≡_};
 ghost use mathlib.Core.Bool.{cond};
@@ -22,7 +22,7 @@ pub enum ResultU8 {
     Err(WireError),
 }
 
-// How many bytes a string unstuffs to, or its first escape that is none.
+// How many bytes a string unstuffs to, or its first wrong escape.
 pub fn unstuffed(s: &[u8]) -> ResultUsize
     ensures { λ r. ⌜ toldUsize r ≡ onYes length (unstuff 0 (now (s .entry))) ⌝ }
 {
@@ -59,7 +59,7 @@ fn step(s: &[u8], i: usize) -> ResultU8
     ResultU8::Ok(decoded)
 }
 
-// Step by step: how many bytes a string unstuffs to, or its first escape that is none.
+// Step by step: how many bytes a string unstuffs to, or its first wrong escape.
 fn count(s: &[u8]) -> ResultUsize
     ensures { λ r. ⌜ toldUsize r ≡ onYes length (unstuff 0 (now (s .entry))) ⌝ }
 {

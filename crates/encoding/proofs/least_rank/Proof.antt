@@ -1,4 +1,5 @@
 -- `least_rank` meets its contract: where no byte so far has a code, they stuff to themselves.
+-- That is the loop's invariant: a least rank above 0 is above 0 for each byte.
 use borrow.Author.Needs.{needs}
 use mathlib.Core.Path.{_≡_, refl}
 use mathlib.Core.List.{List, [], _∷_}

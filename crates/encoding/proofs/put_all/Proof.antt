@@ -1,4 +1,5 @@
 -- `put_all` meets its contract: what is stored, and the stores to come, are those of the stuffed string.
+-- That is the loop's invariant, sixteen bytes to a turn.
 use borrow.Author.Needs.{needs}
 use mathlib.Core.Path.{_≡_, refl, sym, ap, _∙_}
 use mathlib.Core.List.{List, _++_}

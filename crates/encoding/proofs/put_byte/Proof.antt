@@ -1,4 +1,5 @@
 -- `put_byte` meets its contract: its two stores are those of the stuffed byte.
+-- For a byte without a code both stores are the same one.
 use borrow.Author.Needs.{needs}
 use mathlib.Core.Path.{_≡_}
 use Prim.Native.Nat.{_+_}

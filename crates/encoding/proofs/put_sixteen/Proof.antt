@@ -1,4 +1,5 @@
 -- `put_sixteen` meets its contract: a block with no code is its own stuffed form.
+-- A block with a code goes byte by byte.
 use borrow.Author.Needs.{needs}
 use mathlib.Core.Path.{_≡_, ap, _∙_}
 use Prim.Native.Nat.{_+_, _≤_}

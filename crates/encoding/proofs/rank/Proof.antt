@@ -1,4 +1,5 @@
 -- `rank` meets its contract: where it is not 0, the byte is none of the four.
+-- Each of the four makes one of the three differences 0.
 use borrow.Author.Needs.{needs}
 use borrow.Author.Tests.{ne-eqb}
 use mathlib.Core.Path.{_≡_}

@@ -1,4 +1,5 @@
 -- `walk_sixteen` meets its contract: a block with no FD stands for itself.
+-- A block with an FD, or behind one, goes byte by byte.
 use borrow.Author.Needs.{needs}
 use borrow.Author.Tests.{eq-eqb}
 use mathlib.Core.Path.{_≡_, _∙_}
@@ -56,7 +57,8 @@ returns c =
     let s = a .args .s .now in
     let fits : a .args .at + 16 ≤ length (a .args .buf .now) = omega (arith, a .pre .1, kept-slots s, all-kept i) in (
       omega (arith, all-kept i),
-      block-walked s (b .block .result) (a .args .buf .now) (p .put-block .last .1 .0) (a .args .at) (a .args .before) (a .pre .0) (is-block b) (all-kept i) (not-after i) fits (p .put-block .ensures),
+      block-walked s (b .block .result) (a .args .buf .now) (p .put-block .last .1 .0) (a .args .at) (a .args .before)
+          (a .pre .0) (is-block b) (all-kept i) (not-after i) fits (p .put-block .ensures),
     )
 
 walk-requires : tie.Need-walk-requires

@@ -1,4 +1,5 @@
 -- `count` meets its contract: the bytes that are passed and those that the rest unstuffs to make the whole count.
+-- That is the loop's invariant; the first wrong escape is refused where the walk meets it.
 use borrow.Author.Needs.{needs}
 use mathlib.Core.Path.{_≡_, refl, sym, ap, _∙_}
 use mathlib.Core.List.{List, []}
