@@ -7,8 +7,8 @@ use native.Mathlib.Omega.{arith}
 use lib.ListN.{length, length-set}
 use Rattle.stuffing.specs.Stuff.{stuffByte}
 use Rattle.encoding.proofs.Stores.{byte-width, byte-stored}
-use Rattle.encoding.proofs.put_byte.Statement.{statement}
-use Rattle.encoding.proofs.put_byte.Tie as tie
+use Rattle.encoding.proofs.putting.put_byte.Statement.{statement}
+use Rattle.encoding.proofs.putting.put_byte.Tie as tie
 
 -- how far the second store is from the first
 wide : (c : tie.After-select) → 1 + c .select .result ≡ length (stuffByte (c .before .before .before .args .b))

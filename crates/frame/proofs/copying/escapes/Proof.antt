@@ -13,8 +13,8 @@ use lib.ListN.{length, drop, getD, drop-of-length-le}
 use lib.Seq.{drop-cons}
 use Rattle.unstuffing.specs.Proper.{kept}
 use Rattle.unstuffing.proofs.Proper.{both-zero, kept-flag}
-use Rattle.frame.proofs.escapes.Statement.{statement}
-use Rattle.frame.proofs.escapes.Tie as tie
+use Rattle.frame.proofs.copying.escapes.Statement.{statement}
+use Rattle.frame.proofs.copying.escapes.Tie as tie
 
 abbrev Inv-loop : tie.InvT-loop
 Inv-loop a any₀ k₀ any k =

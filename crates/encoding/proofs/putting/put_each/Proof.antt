@@ -10,8 +10,8 @@ use lib.Seq.{sets, length-sets}
 use Rattle.stuffing.specs.Stuff.{stuffByte, stuff}
 use Rattle.stuffing.proofs.Stuffing.{stuff-at}
 use Rattle.general.proofs.Stores.{sets-append}
-use Rattle.encoding.proofs.put_each.Statement.{statement}
-use Rattle.encoding.proofs.put_each.Tie as tie
+use Rattle.encoding.proofs.putting.put_each.Statement.{statement}
+use Rattle.encoding.proofs.putting.put_each.Tie as tie
 
 abbrev Inv-loop : tie.InvT-loop
 Inv-loop s buf₀ at i₀ o₀ buf i o =

@@ -7,8 +7,8 @@ use Prim.Native.Nat.{ℕ}
 use Rattle.addr.specs.Address.{byteOf}
 use Rattle.encoding.specs.Wire.{fields, checksumOf}
 use Rattle.encoding.proofs.Writing.{checksum-tallied, wire-measured}
-use Rattle.encoding.proofs.measure.Statement.{statement}
-use Rattle.encoding.proofs.measure.Tie as tie
+use Rattle.encoding.proofs.measuring.measure.Statement.{statement}
+use Rattle.encoding.proofs.measuring.measure.Tie as tie
 
 as-byte-requires : tie.Need-as-byte-requires
 as-byte-requires c κs = search needs

@@ -10,8 +10,8 @@ use lib.Seq.{take-at}
 use Rattle.unstuffing.specs.Proper.{kept}
 use Rattle.unstuffing.proofs.Proper.{both-zero}
 use Rattle.frame.proofs.Walking.{kept-slots, block-walked}
-use Rattle.frame.proofs.walk_sixteen.Statement.{statement}
-use Rattle.frame.proofs.walk_sixteen.Tie as tie
+use Rattle.frame.proofs.copying.walk_sixteen.Statement.{statement}
+use Rattle.frame.proofs.copying.walk_sixteen.Tie as tie
 
 -- the block is the string
 is-block : (c : tie.After-block) → c .block .result ≡ c .before .before .before .args .s .now

@@ -13,8 +13,8 @@ use lib.Seq.{drop-cons}
 use Rattle.unstuffing.specs.Proper.{kept}
 use Rattle.frame.specs.Walk.{standsFor, raw, slots}
 use Rattle.frame.proofs.Walking.{slots-step, walk-on}
-use Rattle.frame.proofs.walk.Statement.{statement}
-use Rattle.frame.proofs.walk.Tie as tie
+use Rattle.frame.proofs.copying.walk.Statement.{statement}
+use Rattle.frame.proofs.copying.walk.Tie as tie
 
 abbrev Inv-loop : tie.InvT-loop
 Inv-loop s before buf₀ at p₀ i₀ o₀ buf p i o =

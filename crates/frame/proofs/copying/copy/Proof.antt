@@ -10,8 +10,8 @@ use lib.Seq.{length-take-le, take-all, drop-drop}
 use Rattle.unstuffing.specs.Proper.{kept}
 use Rattle.frame.specs.Walk.{raw, slots}
 use Rattle.frame.proofs.Walking.{length-raw, slots-take, slots-part, raw-part, take-whole}
-use Rattle.frame.proofs.copy.Statement.{statement}
-use Rattle.frame.proofs.copy.Tie as tie
+use Rattle.frame.proofs.copying.copy.Statement.{statement}
+use Rattle.frame.proofs.copying.copy.Tie as tie
 
 abbrev Inv-loop : tie.InvT-loop
 Inv-loop s buf₀ p₀ i₀ o₀ buf p i o =
