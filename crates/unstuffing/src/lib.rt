@@ -8,19 +8,14 @@ ghost use lib.ListN.{length, getD, drop};
 ghost use Rattle.error.specs.Refusal.{onYes};
 ghost use Rattle.error.specs.Result.{toldUsize};
 ghost use Rattle.stuffing.specs.Stuff.{unescapeOf};
-ghost use Rattle.unstuffing.specs.Proper.{Proper, kept};
-ghost use Rattle.unstuffing.specs.Unstuff.{toldU8, stepAt, unstuff};
+ghost use Rattle.unstuffing.specs.Proper.{Proper, kept, toldU8};
+ghost use Rattle.unstuffing.specs.Unstuff.{stepAt, unstuff};
 use error::ResultUsize;
 use error::WireError;
 use marks::ESC;
 use stuffing::select;
 use stuffing::unescape;
 use stuffing::wide;
-
-pub enum ResultU8 {
-    Ok(u8),
-    Err(WireError),
-}
 
 // How many bytes a string unstuffs to, or its first wrong escape.
 pub fn unstuffed(s: &[u8]) -> ResultUsize
@@ -34,6 +29,11 @@ pub fn unstuffed(s: &[u8]) -> ResultUsize
         }
     }
     count(s)
+}
+
+enum ResultU8 {
+    Ok(u8),
+    Err(WireError),
 }
 
 // The unstuffing step: the byte that the string has at a place, FD and its code being one byte.
