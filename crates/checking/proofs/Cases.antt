@@ -1,5 +1,5 @@
 -- Which case of a rule holds after which tests.
--- Assumes nothing.
+-- One law for each return of `check` and of the tests that it calls.
 use mathlib.Core.Path.{_≡_, refl}
 use mathlib.Core.List.{List, [], _∷_}
 use Prim.Native.Nat.{ℕ, _-_, _≤_, _<_}

@@ -1,5 +1,5 @@
 -- A wire is taken exactly where it is what the rule says: F0 first, F1 last, escapes and checksum right, known addresses.
--- Assumes nothing.
+-- `Checked` lists these conditions; `taken` and `checked` are the two directions.
 use mathlib.Core.Path.{_≡_, refl, sym, ap, _∙_}
 use mathlib.Core.Bool.{Bool, true, false, cond, not}
 use mathlib.Core.List.{List, [], _∷_}

@@ -1,4 +1,5 @@
 -- What the rules of a wire imply, and what checking is proved by.
+-- Each function's own proof stands in a folder of its name.
 pub mod Cases
 pub mod Reading
 pub mod Checked

@@ -1,5 +1,5 @@
 -- The payload of a wire that passes stands between the two places that are told, and unstuffs to the payload by itself.
--- Assumes nothing.
+-- So a caller may copy it from there, and need not read the header again.
 use mathlib.Core.Path.{_≡_, refl, sym, ap, _∙_}
 use mathlib.Core.List.{List, [], _∷_}
 use Prim.Native.Nat.{ℕ, zero, suc, _+_, _-_, _≤_, _<_}

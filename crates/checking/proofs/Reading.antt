@@ -1,5 +1,5 @@
 -- An interior taken apart: the header's bytes from the front, the checksum's from the back.
--- Assumes nothing.
+-- Both ends are found by the widths of unstuffed bytes, so nothing is copied.
 use mathlib.Core.Path.{_≡_, refl, sym, ap, _∙_}
 use mathlib.Core.List.{List, [], _∷_, _++_}
 use Prim.Native.Nat.{ℕ, zero, suc, _+_, _-_, _*_, _≤_, _<_}
@@ -46,7 +46,8 @@ ends s low at p five e f =
     let n : length (take low s) ≡ low = length-take-le low s (omega (arith, b .inside)) in
     let long : 2 ≤ low = omega (arith, kept-most (take low s), b .one) in
     let c : Back (take low s) at = rw f (back (take low s) (b .left) (omega arith)) in
-    let d : drop at s ≡ drop at (take low s) ++ drop low s = ap (drop at) (sym (take-append-drop low s)) ∙ drop-append-le at (take low s) (drop low s) (omega (arith, c .inside)) in (
+    let d : drop at s ≡ drop at (take low s) ++ drop low s =
+    ap (drop at) (sym (take-append-drop low s)) ∙ drop-append-le at (take low s) (drop low s) (omega (arith, c .inside)) in (
       b .inside,
       long,
       record {
@@ -114,7 +115,8 @@ module _ (s : List ℕ) (p : Proper s) (three : 3 ≤ kept s) where
         head-units =
             past-dest .is
             ∙ ap (after 0 (yes (valueOf s)))
-            (past-src .is ∙ ap (after a (yes (valueOf (drop a s)))) (past-type .is ∙ ap (after b (yes (valueOf (drop b s)))) (unstuff-proper c (past-type .proper))))
+            (past-src .is
+            ∙ ap (after a (yes (valueOf (drop a s)))) (past-type .is ∙ ap (after b (yes (valueOf (drop b s)))) (unstuff-proper c (past-type .proper))))
 
       -- what the three of them tell, and the place behind them
       pub head-told : (len t from : ℕ) (dest src : Told BusAddr)
@@ -181,7 +183,8 @@ module _ (ub : List (ℕ × ℕ)) (hi at lo o : ℕ) (three : 3 ≤ length ub) w
   pub payload-is : payloadOf us ≡ drop 3 (unitBytes ub)
   payload-is =
       let m : unitBytes us ≡ unitBytes ub ++ (hi ∷ lo ∷ []) = bytes-append ub tail in
-      let d : drop 3 (unitBytes us) ≡ drop 3 (unitBytes ub) ++ (hi ∷ lo ∷ []) = rw m (drop-append-le 3 (unitBytes ub) (hi ∷ lo ∷ []) (rw (length-map ub (λ (u : ℕ × ℕ). u .0)) three)) in
+      let d : drop 3 (unitBytes us) ≡ drop 3 (unitBytes ub) ++ (hi ∷ lo ∷ []) =
+      rw m (drop-append-le 3 (unitBytes ub) (hi ∷ lo ∷ []) (rw (length-map ub (λ (u : ℕ × ℕ). u .0)) three)) in
       rw d
       (take-at (drop 3 (unitBytes ub)) (hi ∷ lo ∷ []) (length us - 5)
       (omega (arith, length-drop 3 (unitBytes ub), length-map ub (λ (u : ℕ × ℕ). u .0), length-us)))
@@ -196,8 +199,10 @@ module _ (ub : List (ℕ × ℕ)) (hi at lo o : ℕ) (three : 3 ≤ length ub) w
       let from : offsetAt us 3 ≡ offsetAt (ub ++ (0, at) ∷ []) 3 = next-offset (hi, at) (0, at) ((lo, o) ∷ []) [] ub 3 three refl in
       let to : offsetAt us (length us - 2) ≡ at = ap (λ (u : ℕ × ℕ). u .1) (at-end (length us - 2) 0 (omega (arith, length-us))) in
       let same : onYes (headAt us) (addressesRule us)
-      ≡ onYes (headAt us) (andThen (addressRule (byteAt ub 0)) (λ dest. andThen (addressRule (byteAt ub 1)) (λ src. yes (fields dest src (byteAt ub 2) (payloadOf us)))))
-      = λ i. onYes (headAt us) (andThen (addressRule (d i .0)) (λ dest. andThen (addressRule (s i .0)) (λ src. yes (fields dest src (y i .0) (payloadOf us))))) in
+      ≡ onYes (headAt us)
+      (andThen (addressRule (byteAt ub 0)) (λ dest. andThen (addressRule (byteAt ub 1)) (λ src. yes (fields dest src (byteAt ub 2) (payloadOf us)))))
+      = λ i. onYes (headAt us)
+      (andThen (addressRule (d i .0)) (λ dest. andThen (addressRule (s i .0)) (λ src. yes (fields dest src (y i .0) (payloadOf us))))) in
       same ∙ head-of us (addressRule (byteAt ub 0)) (addressRule (byteAt ub 1)) (byteAt ub 2) n (offsetAt (ub ++ (0, at) ∷ []) 3) at (payloadOf us) p from to
 
 -- ---- an interior with its checksum found

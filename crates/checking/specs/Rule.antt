@@ -1,4 +1,4 @@
--- Document 01, 'Frames': what a wire is tested for, in the paper's order, and what it carries.
+-- Document 01, 'Frames': what a wire is tested for, in the order given there, and what it carries.
 -- A refusal is its number and values; `headOf` is what is answered of a wire that passes.
 use Prim.Native.Nat.{ℕ, _+_, _-_, _*_}
 use mathlib.Core.Bool.{cond, not}

@@ -1,4 +1,4 @@
--- Words for the private walks over a wire's interior; no public contract cites them.
+-- A client may skip this file: words for the private walks over a wire's interior, which no public contract cites.
 -- `Ends` is where the checksum starts, `frontRule` what is tested and told of the bytes before it.
 use Prim.Native.Nat.{ℕ, _+_, _≤_}
 use mathlib.Core.Path.{_≡_}

@@ -1,5 +1,5 @@
 -- Which case of the rule holds after which tests.
--- Assumes nothing.
+-- One law for each return of `encode`.
 use mathlib.Core.Path.{_≡_}
 use mathlib.Core.List.{[], _∷_}
 use Prim.Native.Nat.{ℕ, _≤_, _<_}

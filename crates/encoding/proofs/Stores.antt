@@ -1,5 +1,5 @@
 -- Runs of stores: from the front, of a block and of a stuffed byte.
--- Assumes nothing.
+-- `front` turns a run from the front into the buffer that `filled` tells.
 use mathlib.Core.Path.{_≡_, sym, ap, _∙_}
 use mathlib.Core.Bool.{cond}
 use mathlib.Core.List.{List, _++_}

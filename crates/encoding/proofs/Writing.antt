@@ -1,5 +1,5 @@
 -- A wire by its parts, as they are measured and as they are stored: the head, the payload, the checksum.
--- Assumes nothing.
+-- The three parts together are the wire, in length and byte by byte.
 use mathlib.Core.Path.{_≡_, sym, ap, _∙_}
 use mathlib.Core.List.{List, [], _∷_, _++_, append-assoc}
 use Prim.Native.Nat.{ℕ, _+_, _-_, _/_, _%_, _≤_}
@@ -10,7 +10,7 @@ use Rattle.addr.specs.Address.{byteOf}
 use Rattle.stuffing.specs.Stuff.{stuff, sum16}
 use Rattle.stuffing.proofs.Stuffing.{stuff-append, stuff-least, stuff-most}
 use Rattle.stuffing.proofs.Sums.{sum-append}
-use Rattle.encoding.specs.Wire.{Fields, bodyOf, csOf, wireOf}
+use Rattle.encoding.specs.Wire.{Fields, bodyOf, checksumOf, wireOf}
 use Rattle.general.proofs.Stores.{sets-append}
 
 -- what a tally counts of a string of at most 65,535 bytes
@@ -22,15 +22,15 @@ module _ (f : Fields) (head : List ℕ) (is : head ≡ byteOf (f .dest) ∷ byte
   unfolding bodyOf
   body-is = rw is (stuff-append (byteOf (f .dest) ∷ byteOf (f .src) ∷ f .type ∷ []) (f .payload))
 
-  cs-is : csOf f ≡ (sum16 (stuff head) + sum16 (stuff (f .payload))) % 65536
-  unfolding csOf
-  cs-is = rw body-is (sum-append (stuff head) (stuff (f .payload)))
+  checksum-is : checksumOf f ≡ (sum16 (stuff head) + sum16 (stuff (f .payload))) % 65536
+  unfolding checksumOf
+  checksum-is = rw body-is (sum-append (stuff head) (stuff (f .payload)))
 
   -- by the two tallies
-  pub cs-tallied : {h p n : ℕ} → h ≡ sum16 (stuff head) → p ≡ sum16 (stuff (f .payload)) → n ≡ (h + p) % 65536 → n ≡ csOf f
-  cs-tallied he pe e = e ∙ (λ j. (he j + pe j) % 65536) ∙ sym cs-is
+  pub checksum-tallied : {h p n : ℕ} → h ≡ sum16 (stuff head) → p ≡ sum16 (stuff (f .payload)) → n ≡ (h + p) % 65536 → n ≡ checksumOf f
+  checksum-tallied he pe e = e ∙ (λ j. (he j + pe j) % 65536) ∙ sym checksum-is
 
-  module _ (n : ℕ) (cs : n ≡ csOf f) where
+  module _ (n : ℕ) (cs : n ≡ checksumOf f) where
     abbrev tail : List ℕ
     tail = n / 256 ∷ n % 256 ∷ []
 
@@ -49,7 +49,9 @@ module _ (f : Fields) (head : List ℕ) (is : head ≡ byteOf (f .dest) ∷ byte
         ))
 
     pub wire-measured : (h p t : ℕ) → length (f .payload) ≤ 65535
-        → h ≡ (length (stuff head) - length head) % 65536 → p ≡ (length (stuff (f .payload)) - length (f .payload)) % 65536 → t ≡ (length (stuff tail) - length tail) % 65536
+        → h ≡ (length (stuff head) - length head) % 65536
+        → p ≡ (length (stuff (f .payload)) - length (f .payload)) % 65536
+        → t ≡ (length (stuff tail) - length tail) % 65536
         → length (f .payload) + 7 + h + p + t ≡ length (wireOf f)
     wire-measured h p t few he pe te =
         let three : length head ≡ 3 = ap length is in

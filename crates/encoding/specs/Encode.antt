@@ -1,4 +1,4 @@
--- Document 01, 'Frames': what encoding answers, test by test in the paper's order.
+-- Document 01, 'Frames': what encoding answers, test by test in the order given there.
 -- A refusal is its number and values; a refused call writes nothing (`filled`).
 use Prim.Native.Nat.{ℕ}
 use mathlib.Core.Bool.{cond}

@@ -1,3 +1,4 @@
 -- What the contract of `encode` cites, and every crate that frames pass through.
+-- Wire is the format, Encode the tests before it is written.
 pub mod Wire
 pub mod Encode

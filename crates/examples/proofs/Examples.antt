@@ -1,5 +1,5 @@
 -- Document 01, 'Frames to prove or run': the wires (a) to (g) and the FLOAT40 fields (h) to (l), one list.
--- Assumes nothing.
+-- Each is computed from the rule that a contract cites, so it is about what the code answers.
 use Rattle.frame.proofs.Examples.{Frames, examples-frames}
 use Rattle.float40_write.proofs.Examples.{Float40Examples, examples-float40}
 

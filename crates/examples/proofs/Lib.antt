@@ -1,2 +1,3 @@
 -- The one list of worked examples.
+-- It adds nothing to the two lists that it joins.
 pub mod Examples

@@ -1,5 +1,5 @@
 -- Which case of parsing's rule holds after which tests.
--- Assumes nothing.
+-- One law for each return of `RawFrame::parse`.
 use mathlib.Core.Path.{_≡_, refl}
 use mathlib.Core.List.{List, [], _∷_}
 use Prim.Native.Nat.{ℕ, _≤_, _<_}

@@ -11,7 +11,7 @@ use Rattle.addr.specs.Address.{addressRule}
 use Rattle.stuffing.specs.Stuff.{escapeOf, unescapeOf, stuffByte, sum16}
 use Rattle.unstuffing.specs.Unstuff.{escapeAt, stepAt}
 use Rattle.encoding.proofs.Cases.{encode-fits}
-use Rattle.frame.specs.Wire.{Fields, fields, bodyOf, csOf, wireOf}
+use Rattle.frame.specs.Wire.{Fields, fields, bodyOf, checksumOf, wireOf}
 use Rattle.frame.specs.Rule.{addressesRule, sumRule, unitsRule, checkRule, parseRule, encodeRule}
 
 -- DEST 40, SRC 10, TYPE 01
@@ -35,7 +35,7 @@ writes : (payload wire : List ℕ) → length payload ≤ 65535 → wireOf (to-d
 writes payload wire h e room g = encode-fits (to-dsp payload) room h (rw e g) ∙ ap yes e
 
 pub examples-frames : Frames
-unfolding parseRule checkRule unitsRule sumRule addressesRule addressRule stepAt escapeAt unescapeOf sum16 wireOf csOf bodyOf stuffByte escapeOf
+unfolding parseRule checkRule unitsRule sumRule addressesRule addressRule stepAt escapeAt unescapeOf sum16 wireOf checksumOf bodyOf stuffByte escapeOf
 examples-frames =
     record {
       a = refl;

@@ -1,4 +1,5 @@
 -- What the frame rules imply.
+-- Each function's own proof stands in a folder of its name.
 pub mod Cases
 pub mod Walking
 pub mod Parsed

@@ -1,5 +1,5 @@
 -- What parsing takes is what checking takes, with room for the payload; where a wire is told to have its payload, it stands.
--- Assumes nothing.
+-- `Held` is what a head that was answered tells of the fields behind it.
 use mathlib.Core.Path.{_≡_, refl, sym, ap, _∙_, subst}
 use mathlib.Core.List.{List, [], _∷_}
 use Prim.Native.Nat.{ℕ, _-_, _≤_}

@@ -1,5 +1,5 @@
 -- Parsing a frame's wire gives its fields back, in any room that its payload fits; so parsing what encoding wrote does.
--- Assumes nothing.
+-- `round-trip` is that law, stated by the rules that the two contracts cite.
 use mathlib.Core.Path.{_≡_, refl, sym, ap, _∙_}
 use mathlib.Core.List.{List, [], _∷_, _++_}
 use Prim.Native.Nat.{ℕ, _+_, _-_, _*_, _/_, _%_, _≤_}
@@ -13,7 +13,7 @@ use Rattle.stuffing.specs.Stuff.{stuff, sum16}
 use Rattle.unstuffing.specs.Unstuff.{unstuff, byteAt, offsetAt}
 use Rattle.stuffing.proofs.Stuffing.{stuff-append, stuff-least}
 use Rattle.unstuffing.proofs.Unstuffing.{placed, unstuff-stuff, bytes-placed, length-placed, offset-placed}
-use Rattle.frame.specs.Wire.{Fields, fields, bodyOf, csOf, wireOf}
+use Rattle.frame.specs.Wire.{Fields, fields, bodyOf, checksumOf, wireOf}
 use Rattle.frame.specs.Rule.{encodeRule, interior, receivedOf, computedOf, payloadOf, unitsRule, checkRule, parseRule}
 use Rattle.checking.proofs.Cases.{framed, many, matching, both-known}
 use Rattle.frame.proofs.Cases.{parse-fits}
@@ -27,7 +27,7 @@ last-is m = getD-at (0xF0 ∷ m) 0xF1 [] 0 (length (0xF0 ∷ (m ++ (0xF1 ∷ [])
 
 module _ (f : Fields) where
   abbrev cs : List ℕ
-  cs = csOf f / 256 ∷ csOf f % 256 ∷ []
+  cs = checksumOf f / 256 ∷ checksumOf f % 256 ∷ []
 
   abbrev us : List (ℕ × ℕ)
   us = placed 0 (text f)
@@ -40,15 +40,16 @@ module _ (f : Fields) where
       sym (List·getD-map (λ (u : ℕ × ℕ). u .0) us k (0, 0)) ∙ ap (λ (l : List ℕ). getD l k 0) (bytes-placed 0 (text f))
       ∙ ap (λ (j : ℕ). getD (text f) j 0) e ∙ getD-append-add (head f) cs n 0
 
-  received : receivedOf us ≡ csOf f / 256 * 256 + csOf f % 256
+  received : receivedOf us ≡ checksumOf f / 256 * 256 + checksumOf f % 256
   received =
       rw (byte-at (length us - 2) 0 (omega (arith, length-us)), byte-at (length us - 1) 1 (omega (arith, length-us))) refl
 
-  computed : computedOf (stuff (text f)) us ≡ csOf f
-  unfolding csOf bodyOf
+  computed : computedOf (stuff (text f)) us ≡ checksumOf f
+  unfolding checksumOf bodyOf
   computed =
       let k : length us - 2 ≡ length (head f) = omega (arith, length-us) in
-      let o : offsetAt us (length (head f)) ≡ length (stuff (head f)) = offset-placed 0 (head f) (csOf f / 256) (csOf f % 256 ∷ []) ∙ zero-add (length (stuff (head f))) in
+      let o : offsetAt us (length (head f)) ≡ length (stuff (head f)) =
+      offset-placed 0 (head f) (checksumOf f / 256) (checksumOf f % 256 ∷ []) ∙ zero-add (length (stuff (head f))) in
       rw (k, o, stuff-append (head f) cs) (ap sum16 (take-at (stuff (head f)) (stuff cs) (length (stuff (head f))) refl))
 
   payload-is : payloadOf us ≡ f .payload

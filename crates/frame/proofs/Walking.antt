@@ -1,5 +1,5 @@
 -- What a walk over stuffed bytes writes, byte by byte and joined; of a proper string it is what that unstuffs to.
--- Assumes nothing.
+-- A proper string has as many `slots` as unstuffed bytes, so a walk over it stays in the lent part.
 use mathlib.Core.Path.{_≡_, refl, sym, ap, _∙_}
 use mathlib.Core.Bool.{cond}
 use mathlib.Core.List.{List, [], _∷_, _++_, append-assoc}
@@ -84,7 +84,8 @@ kept-slots (b ∷ a) = omega (arith, slots-step b a, kept-slots a)
 pub take-sets : (l vs : List ℕ) (i : ℕ) → i + length vs ≤ length l → take (i + length vs) (sets l i vs) ≡ take i l ++ vs
 take-sets l vs i h =
     ap (take (i + length vs)) (sets-eq vs l i h)
-    ∙ take-at (take i l ++ vs) (drop (i + length vs) l) (i + length vs) (length-append (take i l) vs ∙ ap (λ (n : ℕ). n + length vs) (length-take-le i l (omega arith)))
+    ∙ take-at (take i l ++ vs) (drop (i + length vs) l) (i + length vs)
+    (length-append (take i l) vs ∙ ap (λ (n : ℕ). n + length vs) (length-take-le i l (omega arith)))
 
 -- one byte of a walk: what is written, and what is to come
 pub walk-on : (buf l : List ℕ) (p b j v : ℕ) → v ≡ standsFor p b → j < length buf
@@ -105,7 +106,8 @@ pub raw-part : (p : ℕ) (s : List ℕ) (i : ℕ) → i + 16 ≤ length s
     → raw p (drop i s) ≡ raw p (take 16 (drop i s)) ++ raw (getD s (i + 16 - 1) 0) (drop (i + 16) s)
 raw-part p s i h =
     let l : lastOf p (take 16 (drop i s)) ≡ getD s (i + 16 - 1) 0 =
-    last-is p (drop i s) 15 (omega (arith, length-drop i s)) ∙ getD-drop i s 15 0 ∙ ap (λ (k : ℕ). getD s k 0) (let e : i + 15 ≡ i + 16 - 1 = omega arith in e) in
+    last-is p (drop i s) 15 (omega (arith, length-drop i s)) ∙ getD-drop i s 15 0
+    ∙ ap (λ (k : ℕ). getD s k 0) (let e : i + 15 ≡ i + 16 - 1 = omega arith in e) in
     ap (raw p) (sym (take-append-drop 16 (drop i s))) ∙ raw-append p (take 16 (drop i s)) (drop 16 (drop i s)) ∙ rw (l, drop-drop 16 i s)
 
 -- a front that is as long as the whole is the whole

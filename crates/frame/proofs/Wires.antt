@@ -1,5 +1,5 @@
 -- A wire is F0, an interior that has no F0 and no F1, and F1; what encoding answers is the fields' wire.
--- Assumes nothing.
+-- So its end is the first F1 behind its start.
 use mathlib.Core.Path.{_≡_, sym, ap, _∙_}
 use mathlib.Core.Bool.{Bool, true, false, cond}
 use mathlib.Core.List.{List, [], _∷_, _++_, append-assoc}
@@ -9,8 +9,9 @@ use lib.ListN.{length}
 use Rattle.error.specs.Refusal.{Told, yes, no}
 use Rattle.addr.specs.Address.{byteOf}
 use Rattle.stuffing.specs.Stuff.{stuff}
-use Rattle.stuffing.proofs.Stuffing.{stuff-append, has, no-F0, no-F1}
-use Rattle.frame.specs.Wire.{Fields, bodyOf, csOf, wireOf}
+use Rattle.search.specs.First.{has}
+use Rattle.stuffing.proofs.Stuffing.{stuff-append, no-F0, no-F1}
+use Rattle.frame.specs.Wire.{Fields, bodyOf, checksumOf, wireOf}
 use Rattle.frame.specs.Rule.{encodeRule}
 
 -- DEST SRC TYPE PAYLOAD, and all that is stuffed
@@ -18,12 +19,12 @@ abbrev pub head : Fields → List ℕ
 head f = byteOf (f .dest) ∷ byteOf (f .src) ∷ f .type ∷ f .payload
 
 abbrev pub text : Fields → List ℕ
-text f = head f ++ (csOf f / 256 ∷ csOf f % 256 ∷ [])
+text f = head f ++ (checksumOf f / 256 ∷ checksumOf f % 256 ∷ [])
 
 pub wire-is : (f : Fields) → wireOf f ≡ 0xF0 ∷ (stuff (text f) ++ (0xF1 ∷ []))
 unfolding wireOf bodyOf
 wire-is f =
-    let cs : List ℕ = csOf f / 256 ∷ csOf f % 256 ∷ [] in
+    let cs : List ℕ = checksumOf f / 256 ∷ checksumOf f % 256 ∷ [] in
     ap (λ (x : List ℕ). 0xF0 ∷ x)
     (sym (append-assoc (stuff (head f)) (stuff cs) (0xF1 ∷ [])) ∙ ap (λ (x : List ℕ). x ++ (0xF1 ∷ [])) (sym (stuff-append (head f) cs)))
 
@@ -45,5 +46,6 @@ unfolding encodeRule
 written-is f room {w} e =
     let n = length (wireOf f) in
     let y : Told (List ℕ) = cond (ltb room n) (no 8 (n ∷ room ∷ [])) (yes (wireOf f)) in
-    let z : yes (wireOf f) ≡ yes w = unless (ltb room n) 8 (n ∷ room ∷ []) (yes (wireOf f)) w (unless (ltb 65535 (length (f .payload))) 10 (length (f .payload) ∷ []) y w e) in
+    let z : yes (wireOf f) ≡ yes w =
+    unless (ltb room n) 8 (n ∷ room ∷ []) (yes (wireOf f)) w (unless (ltb 65535 (length (f .payload))) 10 (length (f .payload) ∷ []) y w e) in
     cc

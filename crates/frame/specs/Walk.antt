@@ -1,4 +1,4 @@
--- Words for the private walks over a payload's stuffed bytes; no public contract cites them.
+-- A client may skip this file: words for the private walks over a payload's stuffed bytes, which no public contract cites.
 -- `raw` is what a walk over stuffed bytes writes, one byte at a time; of a proper string it is what that unstuffs to (proofs/Walking).
 use Prim.Native.Nat.{ℕ, _+_}
 use mathlib.Core.Bool.{cond}

@@ -11,20 +11,19 @@ use lib.Seq.{take-length}
 use borrow.Author.Tests.{eqb-true, le-leb}
 use Rattle.general.proofs.Cases.{by-test}
 use Rattle.frame.proofs.Wires.{Framed, wire-framed, written-is}
-use Rattle.stuffing.proofs.Stuffing.{has}
-use Rattle.search.specs.First.{indexOf}
-use Rattle.splitter.specs.Feed.{frame}
 use Rattle.error.specs.Refusal.{yes}
+use Rattle.search.specs.First.{indexOf, has}
+use Rattle.splitter.specs.Feed.{frame}
 use Rattle.stream.specs.Stream.{answerTo}
 use Rattle.stream.specs.Heard.{atLast}
 use Rattle.stream.proofs.Line.{opened, hear, closes, opens-closes}
-use Rattle.recovery.specs.Recovery.{Sent, hasEnd, pending}
+use Rattle.recovery.specs.Recovery.{Sent, pending}
 
 -- ---- after noise
 
 record After (l : List ℕ) : Type 0 where
   shut : opened [] l ≡ pending l
-  inside : (x : ℕ) (w : List ℕ) → opened (x ∷ w) l ≡ cond (hasEnd l) (pending l) (x ∷ (w ++ l))
+  inside : (x : ℕ) (w : List ℕ) → opened (x ∷ w) l ≡ cond (has 0xF1 l) (pending l) (x ∷ (w ++ l))
 
 after-noise : (l : List ℕ) → After l
 after-noise [] = record { shut = refl; inside = λ x w. ap (λ (v : List ℕ). x ∷ v) (sym (append-nil w)) }
@@ -33,7 +32,7 @@ after-noise (b ∷ l) =
     record {
       shut =
           by-test (eqb b 0xF0)
-          (λ e. rw (e, r .inside b []) (by-test (hasEnd l) (λ t. rw t) (λ t. rw t)))
+          (λ e. rw (e, r .inside b []) (by-test (has 0xF1 l) (λ t. rw t) (λ t. rw t)))
           (λ e. rw e (r .shut));
       inside = λ x w.
           by-test (eqb b 0xF1)
@@ -42,7 +41,7 @@ after-noise (b ∷ l) =
           rw (e, n) (r .shut))
           (λ e.
           rw (e, r .inside x (w ++ (b ∷ [])))
-          (by-test (hasEnd l) (λ t. rw t (by-test (eqb b 0xF0) (λ y. rw y) (λ y. rw y))) (λ t. rw (t, append-assoc))));
+          (by-test (has 0xF1 l) (λ t. rw t (by-test (eqb b 0xF0) (λ y. rw y) (λ y. rw y))) (λ t. rw (t, append-assoc))));
     }
 
 -- an unclosed start that is pending is the frame that is open
@@ -51,11 +50,7 @@ open-after noise = after-noise noise .shut
 
 -- ---- over a wire
 
-same-end : (l : List ℕ) → has 0xF1 l ≡ hasEnd l
-same-end [] = refl
-same-end (b ∷ l) = rw (same-end l)
-
-end-at : (m : List ℕ) → hasEnd m ≡ false → indexOf 0xF1 (m ++ (0xF1 ∷ [])) ≡ length m
+end-at : (m : List ℕ) → has 0xF1 m ≡ false → indexOf 0xF1 (m ++ (0xF1 ∷ [])) ≡ length m
 unfolding indexOf
 end-at [] e = refl
 end-at (b ∷ m) e =
@@ -69,7 +64,7 @@ end-at (b ∷ m) e =
 end-is : {w : List ℕ} → (k : Framed w) → suc (indexOf 0xF1 w) ≡ length w
 end-is {w} k =
     let m : List ℕ = 0xF0 ∷ k .inner in
-    let e : indexOf 0xF1 (m ++ (0xF1 ∷ [])) ≡ length m = end-at m (sym (same-end (k .inner)) ∙ k .no-end) in
+    let e : indexOf 0xF1 (m ++ (0xF1 ∷ [])) ≡ length m = end-at m (k .no-end) in
     rw (k .is) (omega (arith, e, length-append m (0xF1 ∷ [])))
 
 module _ (H : ℕ) where

@@ -2,13 +2,14 @@
 -- The theorem `condition-3` (proofs/Recovery) has this type. What a call is, and what it says: stream, specs/Stream.
 use Prim.Native.Nat.{ℕ, _≤_}
 use mathlib.Core.Path.{_≡_}
-use mathlib.Core.Bool.{Bool, false, cond, not, _&&_, _||_}
+use mathlib.Core.Bool.{cond, not, _&&_}
 use mathlib.Core.List.{List, [], _∷_, _++_, map}
 use lib.ListN.{length}
 use lib.Dec.{eqb}
 use Rattle.error.specs.Refusal.{yes}
 use Rattle.frame.specs.Wire.{Fields}
 use Rattle.frame.specs.Rule.{encodeRule, parseRule}
+use Rattle.search.specs.First.{has}
 use Rattle.splitter.specs.declared.FrameSplitter.{FrameSplitter}
 use Rattle.splitter.specs.Feed.{frame, new}
 use Rattle.stream.specs.Stream.{Said, Call, call, Feeds, joined, takenBy, answers, answerTo}
@@ -28,14 +29,10 @@ abbrev pub wires : {H : ℕ} → List (Sent H) → List ℕ
 wires [] = []
 wires (f ∷ fs) = f .wire ++ wires fs
 
-abbrev pub hasEnd : List ℕ → Bool
-hasEnd [] = false
-hasEnd (b ∷ l) = eqb b 0xF1 || hasEnd l
-
 -- the "unclosed start" that is pending after some bytes: from the first F0 with no F1 behind it, all of them; or none
 abbrev pub pending : List ℕ → List ℕ
 pending [] = []
-pending (b ∷ l) = cond (eqb b 0xF0 && not (hasEnd l)) (b ∷ l) (pending l)
+pending (b ∷ l) = cond (eqb b 0xF0 && not (has 0xF1 l)) (b ∷ l) (pending l)
 
 -- ---- what the calls do
 

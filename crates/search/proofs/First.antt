@@ -1,5 +1,5 @@
 -- Laws of specs/First: the cases of a search, and what is known of the index that is found.
--- Assumes nothing.
+-- `first-hit`, `first-miss` and `first-end` are the three cases of a step.
 use mathlib.Core.Path.{_≡_}
 use mathlib.Core.List.{List, [], _∷_}
 use Prim.Native.Nat.{ℕ, suc, _+_, _-_, _≤_, _<_, zero-le, suc-le-suc}

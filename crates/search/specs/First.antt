@@ -1,7 +1,7 @@
--- Where a byte is first found in a list of bytes.
--- The index of none is the list's length; a start past the end is its own answer.
+-- Where a byte is first found in a list of bytes, and whether it is there at all.
+-- Where it is not, the index is the list's length; a start past the end is its own answer.
 use Prim.Native.Nat.{ℕ, suc, _+_}
-use mathlib.Core.Bool.{cond}
+use mathlib.Core.Bool.{Bool, false, cond, _||_}
 use mathlib.Core.List.{List, [], _∷_}
 use lib.ListN.{drop}
 use lib.Dec.{eqb}
@@ -14,3 +14,8 @@ indexOf b (x ∷ l) = cond (eqb x b) 0 (suc (indexOf b l))
 -- the same, from an index on
 abbrev pub firstFrom : ℕ → ℕ → List ℕ → ℕ
 firstFrom b i l = i + indexOf b (drop i l)
+
+-- whether a list has a byte b
+abbrev pub has : ℕ → List ℕ → Bool
+has b [] = false
+has b (x ∷ l) = eqb x b || has b l

@@ -1,5 +1,5 @@
 -- The table of codes: a byte with a code is the one that its code stands for; a code is at most 4.
--- Assumes nothing.
+-- So a byte that is written as an escape is read back, and no code is a mark.
 use mathlib.Core.Path.{_≡_, refl, sym}
 use mathlib.Core.Bool.{Bool, true, false, cond}
 use mathlib.Core.List.{[], _∷_}

@@ -1,7 +1,7 @@
--- Stuffing of joined strings is the joined stuffings; no F0, F1 or FA stands in a stuffed string.
--- Assumes nothing.
+-- Stuffing of joined strings is the joined stuffings; no F0 and no F1 stands in a stuffed string.
+-- A stuffed string is as long as its own string at least, and twice as long at most.
 use mathlib.Core.Path.{_≡_, refl, sym, ap, _∙_}
-use mathlib.Core.Bool.{Bool, false, _||_}
+use mathlib.Core.Bool.{false, _||_}
 use mathlib.Core.List.{List, [], _∷_, _++_, append-assoc}
 use Prim.Native.Nat.{ℕ, _+_, _*_, _≤_, _<_}
 use native.Mathlib.Numerals.{add-one}
@@ -11,6 +11,7 @@ use lib.ListN.{length, take, drop, getD, length-append, take-append-drop}
 use lib.Seq.{drop-cons, drop-drop}
 use borrow.Author.Tests.{ne-eqb}
 use Rattle.general.proofs.Cases.{by-test, by-eq}
+use Rattle.search.specs.First.{has}
 use Rattle.stuffing.specs.Stuff.{escapeOf, stuffByte, stuff}
 use Rattle.stuffing.proofs.Codes.{plain, escaped, code-small}
 
@@ -40,10 +41,6 @@ stuff-most [] = omega arith
 stuff-most (b ∷ s) = omega (arith, length-append (stuffByte b) (stuff s), width b, stuff-most s)
 
 -- ---- bytes that never stand in a stuffed string
-
-abbrev pub has : ℕ → List ℕ → Bool
-has x [] = false
-has x (b ∷ l) = eqb b x || has x l
 
 pub has-append : (x : ℕ) (a b : List ℕ) → has x (a ++ b) ≡ has x a || has x b
 has-append x [] b = refl

@@ -1,5 +1,5 @@
 -- The sum of joined strings is the sum of their sums, wrapped at 65,536, in either order.
--- Assumes nothing.
+-- `running` and `counted` are the step of a loop that adds and wraps.
 use mathlib.Core.Path.{_≡_, sym, ap, _∙_}
 use mathlib.Core.List.{List, [], _∷_, _++_}
 use Prim.Native.Nat.{ℕ, _+_, _%_, _<_}

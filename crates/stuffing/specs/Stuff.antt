@@ -9,7 +9,7 @@ use lib.Dec.{eqb}
 unfoldable pub escapeOf : ℕ → ℕ
 escapeOf b = cond (eqb b 0xF0) 1 (cond (eqb b 0xF1) 2 (cond (eqb b 0xFD) 3 (cond (eqb b 0xFA) 4 0)))
 
--- and back: the byte of a code; 0 for a code that is none
+-- and back: the byte of a code; 0 for any other number
 unfoldable pub unescapeOf : ℕ → ℕ
 unescapeOf c = cond (eqb c 1) 0xF0 (cond (eqb c 2) 0xF1 (cond (eqb c 3) 0xFD (cond (eqb c 4) 0xFA 0)))
 

@@ -27,7 +27,7 @@ pub fn escape_code(b: u8) -> u8
     )
 }
 
-// The byte that a code stands for; 0 for a code that stands for none.
+// The byte that a code stands for; 0 for any other number.
 pub fn unescape(c: u8) -> u8
     ensures { λ r. ⌜ r ≡ unescapeOf c ⌝ }
 {

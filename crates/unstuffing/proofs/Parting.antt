@@ -1,5 +1,5 @@
 -- Proper strings taken apart: joined ones unstuff to both, and each has a first unstuffed byte and a last one.
--- Assumes nothing.
+-- `Front` and `Back` are what is known at the two ends.
 use mathlib.Core.Path.{_≡_, refl, ap, _∙_}
 use mathlib.Core.List.{List, [], _∷_, _++_}
 use Prim.Native.Nat.{ℕ, suc, _+_, _-_, _≤_, _<_}
@@ -89,7 +89,9 @@ front-at s i p h =
       rest = rw d at (f .rest);
       inside = omega (arith, rw b at (f .inside), length-drop i s);
       one = rw d at (f .one);
-      is = unstuff-at s i h ∙ ap (λ (t : Told ℕ). after i t (unstuff (i + widthOf (getD s i 0)) (drop (i + widthOf (getD s i 0)) s))) (rw (b, r) at (f .step i));
+      is =
+          unstuff-at s i h
+          ∙ ap (λ (t : Told ℕ). after i t (unstuff (i + widthOf (getD s i 0)) (drop (i + widthOf (getD s i 0)) s))) (rw (b, r) at (f .step i));
     }
 
 -- ---- the last byte

@@ -1,5 +1,5 @@
 -- Proper strings unstuff and no others do, to as many bytes as they have without their FDs.
--- Assumes nothing.
+-- `proper-pair` and `proper-last` tell a proper string from its neighbouring pairs.
 use mathlib.Core.Path.{_≡_, refl, ap, _∙_}
 use mathlib.Core.Bool.{cond}
 use mathlib.Core.List.{List, [], _∷_}

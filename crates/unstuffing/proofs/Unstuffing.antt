@@ -1,5 +1,5 @@
 -- Unstuffing a stuffed string gives its bytes back, each at its offset; so two different strings never stuff alike.
--- Assumes nothing.
+-- `unstuff-step` is one step, whatever the byte.
 use mathlib.Core.Path.{_≡_, refl, sym, ap, _∙_}
 use mathlib.Core.List.{List, [], _∷_, _++_}
 use Prim.Native.Nat.{ℕ, _+_, _≤_, _<_}

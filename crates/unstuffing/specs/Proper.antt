@@ -1,11 +1,14 @@
--- Words for the private walks over stuffed strings; no public contract cites them.
+-- A client may skip this file: words for the private walks over stuffed strings, which no public contract cites.
 -- A proper string is one that unstuffs (proofs/Proper): each FD in it is followed by a code.
 use Prim.Native.Nat.{ℕ, _+_}
 use mathlib.Core.Path.{_≡_}
 use mathlib.Core.Bool.{cond}
 use mathlib.Core.List.{List, [], _∷_}
 use lib.Dec.{eqb}
+use Rattle.error.specs.Refusal.{Told, yes, refused}
 use Rattle.stuffing.specs.Stuff.{unescapeOf}
+use Rattle.unstuffing.specs.declared.ResultU8.{ResultU8}
+use Rattle.unstuffing.specs.declared.ResultU8.the-variants.{Ok, Err}
 
 pub data Proper : List ℕ → Type 0 where
   none : Proper []
@@ -26,3 +29,8 @@ abbrev pub valueOf : List ℕ → ℕ
 valueOf [] = 0
 valueOf (b ∷ []) = b
 valueOf (b ∷ c ∷ l) = cond (eqb b 0xFD) (unescapeOf c) b
+
+-- a step's answer, as it is told
+abbrev pub toldU8 : ResultU8 → Told ℕ
+toldU8 (Ok b) = yes b
+toldU8 (Err e) = refused e

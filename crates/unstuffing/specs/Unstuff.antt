@@ -1,14 +1,12 @@
--- Document 01, 'Frames': unstuffing goes left to right, and refuses the first escape that is none (4, its code and offset).
+-- Document 01, 'Frames': unstuffing goes left to right, and refuses the first wrong escape (4, its code and offset).
 -- `stepAt` is one step of it, `unstuff` all of them: each unstuffed byte with the offset where it starts.
 use Prim.Native.Nat.{ℕ, _+_}
 use mathlib.Core.Bool.{cond}
 use mathlib.Core.List.{List, [], _∷_, map}
 use lib.Dec.{eqb}
 use lib.ListN.{getD}
-use Rattle.error.specs.Refusal.{Told, yes, no, refused, onYes}
+use Rattle.error.specs.Refusal.{Told, yes, no, onYes}
 use Rattle.stuffing.specs.Stuff.{unescapeOf}
-use Rattle.unstuffing.specs.declared.ResultU8.{ResultU8}
-use Rattle.unstuffing.specs.declared.ResultU8.the-variants.{Ok, Err}
 
 -- what an FD at offset i stands for, by what follows it; a lone FD at the end gives code 00
 unfoldable pub escapeAt : ℕ → List ℕ → Told ℕ
@@ -39,7 +37,3 @@ byteAt us k = getD us k (0, 0) .0
 
 abbrev pub offsetAt : List (ℕ × ℕ) → ℕ → ℕ
 offsetAt us k = getD us k (0, 0) .1
-
-abbrev pub toldU8 : ResultU8 → Told ℕ
-toldU8 (Ok b) = yes b
-toldU8 (Err e) = refused e

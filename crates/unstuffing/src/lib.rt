@@ -1,4 +1,4 @@
-// Unstuffing of frame.rs: FD and a code are one byte again; the first escape that is none is refused.
+// Unstuffing of frame.rs: FD and a code are one byte again; the first wrong escape is refused.
 // `unstuffed` counts the bytes that a string unstuffs to. Unstuffing what was stuffed gives it back (proofs/Unstuffing).
 ghost use mathlib.Core.Path.{_≡_};
 ghost use mathlib.Core.Bool.{cond};
@@ -8,8 +8,8 @@ ghost use lib.ListN.{length, getD, drop};
 ghost use Rattle.error.specs.Refusal.{onYes};
 ghost use Rattle.error.specs.Result.{toldUsize};
 ghost use Rattle.stuffing.specs.Stuff.{unescapeOf};
-ghost use Rattle.unstuffing.specs.Proper.{Proper, kept};
-ghost use Rattle.unstuffing.specs.Unstuff.{toldU8, stepAt, unstuff};
+ghost use Rattle.unstuffing.specs.Proper.{Proper, kept, toldU8};
+ghost use Rattle.unstuffing.specs.Unstuff.{stepAt, unstuff};
 use error::ResultUsize;
 use error::WireError;
 use marks::ESC;
@@ -17,12 +17,7 @@ use stuffing::select;
 use stuffing::unescape;
 use stuffing::wide;
 
-pub enum ResultU8 {
-    Ok(u8),
-    Err(WireError),
-}
-
-// How many bytes a string unstuffs to, or its first escape that is none.
+// How many bytes a string unstuffs to, or its first wrong escape.
 pub fn unstuffed(s: &[u8]) -> ResultUsize
     ensures { λ r. ⌜ toldUsize r ≡ onYes length (unstuff 0 (now (s .entry))) ⌝ }
 {
@@ -34,6 +29,11 @@ pub fn unstuffed(s: &[u8]) -> ResultUsize
         }
     }
     count(s)
+}
+
+enum ResultU8 {
+    Ok(u8),
+    Err(WireError),
 }
 
 // The unstuffing step: the byte that the string has at a place, FD and its code being one byte.
@@ -59,7 +59,7 @@ fn step(s: &[u8], i: usize) -> ResultU8
     ResultU8::Ok(decoded)
 }
 
-// Step by step: how many bytes a string unstuffs to, or its first escape that is none.
+// Step by step: how many bytes a string unstuffs to, or its first wrong escape.
 fn count(s: &[u8]) -> ResultUsize
     ensures { λ r. ⌜ toldUsize r ≡ onYes length (unstuff 0 (now (s .entry))) ⌝ }
 {

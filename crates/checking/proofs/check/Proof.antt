@@ -1,4 +1,5 @@
 -- `check` meets its contract: each return is the rule's case.
+-- The interior's tests are `check_interior`'s.
 use borrow.Author.Needs.{needs}
 use mathlib.Core.Path.{_≡_, sym, _∙_}
 use Prim.Native.Nat.{_-_}

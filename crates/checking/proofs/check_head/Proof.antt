@@ -1,4 +1,5 @@
 -- `check_head` meets its contract: DEST, then SRC, each as its byte tells.
+-- The places of the two and of TYPE follow from the widths before them.
 use borrow.Author.Needs.{needs}
 use mathlib.Core.Path.{_≡_, refl, sym, ap, _∙_}
 use Prim.Native.Nat.{_+_}
@@ -23,7 +24,8 @@ dest-told c = c .from-byte .ensures ∙ ap addressRule (c .before .value .ensure
 
 src-told : (c : tie.After-from-byte2)
     → toldBusAddr (c .from-byte2 .result)
-    ≡ addressRule (valueOf (drop (c .before .before .before .before .before .before .next .result) (c .before .before .before .before .before .before .before .before .args .body .now)))
+    ≡ addressRule (valueOf (drop (c .before .before .before .before .before .before .next .result)
+    (c .before .before .before .before .before .before .before .before .args .body .now)))
 src-told c = c .from-byte2 .ensures ∙ ap addressRule (c .before .value2 .ensures)
 
 -- and with them the head, whatever the two answers are
@@ -34,8 +36,10 @@ module _ (c : tie.After-value3) where
   abbrev place : tie.After-next3
   place = c .before .before .before .before .before
 
-  told : (dest src : Told BusAddr) → dest ≡ toldBusAddr (c .before .before .before .from-byte .result) → src ≡ toldBusAddr (c .before .from-byte2 .result)
-      → andThen dest (λ d. andThen src (λ r. yes (head d r (c .value3 .result) (start .args .len) (place .next3 .result + 1) (length (start .args .body .now) + 1))))
+  told : (dest src : Told BusAddr) → dest ≡ toldBusAddr (c .before .before .before .from-byte .result)
+      → src ≡ toldBusAddr (c .before .from-byte2 .result)
+      → andThen dest
+      (λ d. andThen src (λ r. yes (head d r (c .value3 .result) (start .args .len) (place .next3 .result + 1) (length (start .args .body .now) + 1))))
       ≡ andThen (unstuff 0 (start .args .body .now)) (frontRule (start .args .len) (length (start .args .body .now)))
   told dest src de se =
       let m = place .before in

@@ -1,4 +1,5 @@
 -- `check_interior` meets its contract: an interior that does not unstuff is refused, and one of fewer than five bytes.
+-- The others are tested for their checksum.
 use borrow.Author.Needs.{needs}
 use mathlib.Core.Path.{sym, ap, _∙_}
 use Prim.Native.Nat.{_≤_, _<_}

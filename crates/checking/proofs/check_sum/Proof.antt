@@ -1,4 +1,5 @@
 -- `check_sum` meets its contract: the checksum is tested against the stuffed bytes before it, and then the head is read.
+-- Where the checksum starts parts the interior in two proper strings.
 use borrow.Author.Needs.{needs}
 use mathlib.Core.Path.{_≡_, sym, ap, _∙_}
 use mathlib.Core.List.{List, [], _∷_, _++_}

@@ -1,4 +1,5 @@
 -- `checksum_at` meets its contract: two unstuffed bytes are cut off at the end.
+-- Both are there, since there are five at least.
 use mathlib.Core.Path.{refl, sym}
 use Prim.Native.Nat.{_<_, _≤_}
 use native.Mathlib.Omega.{arith}
@@ -12,7 +13,10 @@ use Rattle.checking.proofs.checksum_at.Statement.{statement}
 use Rattle.checking.proofs.checksum_at.Tie as tie
 
 -- wherever the second cut is
-cuts : (c : tie.After-cut) → (c .cut .result < length (c .before .before .args .s .now)) × (2 ≤ c .cut .result) × (Ends (c .before .before .args .s .now) (cutOf (take (c .cut .result) (c .before .before .args .s .now))))
+cuts : (c : tie.After-cut)
+    → (c .cut .result < length (c .before .before .args .s .now))
+    × (2 ≤ c .cut .result)
+    × (Ends (c .before .before .args .s .now) (cutOf (take (c .cut .result) (c .before .before .args .s .now))))
 cuts c =
     let a = c .before .before in
     let s = a .args .s .now in

@@ -1,4 +1,5 @@
 -- `cut` meets its contract: a step takes at most two bytes.
+-- So the last one starts inside the string.
 use borrow.Author.Needs.{needs}
 use Prim.Native.Nat.{_-_}
 use native.Mathlib.Omega.{arith}

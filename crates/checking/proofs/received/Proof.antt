@@ -1,4 +1,5 @@
 -- `received` meets its contract: the checksum's two bytes are read one after the other.
+-- The first is the high one, and the sum fits 16 bits.
 use borrow.Author.Needs.{needs}
 use mathlib.Core.Path.{ap, _∙_}
 use Prim.Native.Nat.{ℕ, _+_, _*_}

@@ -1,4 +1,5 @@
 -- `value` meets its contract: a byte that is not FD stands for itself, and FD for what its code says.
+-- A proper string has that code inside.
 use borrow.Author.Needs.{needs}
 use mathlib.Core.Path.{sym, _∙_}
 use Rattle.checking.proofs.Reading.{value-one, escape-inside, value-two}

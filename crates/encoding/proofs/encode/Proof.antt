@@ -1,4 +1,5 @@
--- `RawFrame::encode` meets its contract: each return is the rule's case.
+-- `encode` meets its contract: each return is the rule's case.
+-- A refusal stores nothing; a success stores the wire at the front (`front`).
 use borrow.Author.Needs.{needs}
 use mathlib.Core.Path.{_≡_, refl, ap}
 use mathlib.Core.List.{[], _∷_}

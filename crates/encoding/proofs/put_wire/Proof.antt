@@ -1,4 +1,5 @@
 -- `put_wire` meets its contract: its stores, run after run, are the wire's.
+-- There is room for each run, since there is room for the wire.
 use borrow.Author.Needs.{needs}
 use mathlib.Core.Path.{_≡_}
 use mathlib.Core.List.{List, [], _∷_}
@@ -26,8 +27,10 @@ head-is : (c : tie.After-as-byte2) → head c ≡ byteOf (start c .args .dest) �
 head-is c = λ j. c .before .as-byte .ensures j ∷ c .as-byte2 .ensures j ∷ start c .args .type-id ∷ []
 
 parts : (c : tie.After-as-byte2)
-    → length (wireOf (frameOf (start c))) ≡ length (stuff (head c)) + length (stuff (start c .args .payload .now)) + length (stuff (start c .args .cs / 256 ∷ start c .args .cs % 256 ∷ [])) + 2
-parts c = wire-length (frameOf (start c)) (head c) (head-is c) (start c .args .cs) (start c .pre .0)
+    → length (wireOf (frameOf (start c)))
+    ≡ length (stuff (head c)) + length (stuff (start c .args .payload .now))
+    + length (stuff (start c .args .checksum / 256 ∷ start c .args .checksum % 256 ∷ [])) + 2
+parts c = wire-length (frameOf (start c)) (head c) (head-is c) (start c .args .checksum) (start c .pre .0)
 
 as-byte-requires : tie.Need-as-byte-requires
 as-byte-requires c κs = search needs
@@ -88,9 +91,10 @@ returns c =
     let p2 = p3 .before .before .before .before .before in
     let p1 = p2 .before .before .before .before in
     let h = p1 .before .before .before in
-    wire-stores (frameOf (start h)) (head h) (head-is h) (start h .args .cs) (start h .pre .0) (start h .args .wire .now)
+    wire-stores (frameOf (start h)) (head h) (head-is h) (start h .args .checksum) (start h .pre .0) (start h .args .wire .now)
     (p1 .put-each .last .1 .0) (p2 .put-all .last .1 .0) (p3 .put-each2 .last .1 .0) (p1 .put-each .result) (p2 .put-all .result) (p3 .put-each2 .result)
-    (p1 .put-each .ensures .1) (p1 .put-each .ensures .0) (p2 .put-all .ensures .1) (p2 .put-all .ensures .0) (p3 .put-each2 .ensures .1) (p3 .put-each2 .ensures .0)
+    (p1 .put-each .ensures .1) (p1 .put-each .ensures .0) (p2 .put-all .ensures .1) (p2 .put-all .ensures .0)
+    (p3 .put-each2 .ensures .1) (p3 .put-each2 .ensures .0)
 
 pub put-wire-spec : {M : Type 1} → statement M
 put-wire-spec =

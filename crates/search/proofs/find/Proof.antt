@@ -1,5 +1,5 @@
--- `find` meets its contract. The loop's invariant: what is sought from `from` on is what is sought from i on.
--- Assumes nothing.
+-- `find` meets its contract.
+-- The loop's invariant: what is sought from `from` on is what is sought from i on.
 use mathlib.Core.Path.{_≡_, refl, sym, _∙_}
 use Prim.Native.Nat.{_-_}
 use native.Mathlib.Omega.{arith}

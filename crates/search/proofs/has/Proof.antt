@@ -1,5 +1,5 @@
--- `has` meets its contract. The loop's invariant: where there was no hit, what is sought from i on is what is sought from i + k on.
--- Assumes nothing.
+-- `has` meets its contract.
+-- The loop's invariant: where there was no hit, what is sought from i on is what is sought from i + k on.
 use mathlib.Core.Path.{_≡_, sym, ap, _∙_}
 use mathlib.Core.Bool.{true, false}
 use mathlib.Core.Logic.{⊎-elim}

@@ -1,5 +1,5 @@
--- `skip` meets its contract. The loop's invariant: a block from `last` on still fits, and what is sought from `from` on is what is
--- sought from i on. Assumes nothing.
+-- `skip` meets its contract.
+-- The loop's invariant: a block from `last` on still fits, and what is sought from `from` on is what is sought from i on.
 use mathlib.Core.Path.{_≡_, refl, _∙_}
 use Prim.Native.Nat.{_+_, _-_, _≤_}
 use native.Mathlib.Omega.{arith}

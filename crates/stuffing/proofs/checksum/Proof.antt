@@ -1,4 +1,5 @@
 -- `checksum` meets its contract: the running sum and the bytes that are left add up to the whole, wrapped.
+-- That is the loop's invariant; wrapping at each step is wrapping once (`running`).
 use borrow.Author.Needs.{needs}
 use mathlib.Core.Path.{_≡_}
 use Prim.Native.Nat.{_+_, _-_, _%_, _≤_, _<_}

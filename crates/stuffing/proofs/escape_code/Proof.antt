@@ -1,4 +1,5 @@
 -- `escape_code` meets its contract: the selections are the table's tests, in its order.
+-- No case is left over: a byte outside the table selects 0.
 use borrow.Author.Needs.{needs}
 use Rattle.stuffing.specs.Stuff.{escapeOf}
 use Rattle.stuffing.proofs.escape_code.Statement.{statement}

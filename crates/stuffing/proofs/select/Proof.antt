@@ -1,4 +1,5 @@
 -- `select` meets its contract: each arm is the test's case.
+-- One test of two bytes, two arms.
 use borrow.Author.Tests.{eq-eqb, ne-eqb}
 use Rattle.stuffing.proofs.select.Statement.{statement}
 use Rattle.stuffing.proofs.select.Tie as tie

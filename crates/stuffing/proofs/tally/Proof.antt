@@ -1,4 +1,5 @@
 -- `tally` meets its contract: what is counted and what the bytes that are left will add make the whole, wrapped.
+-- That is the loop's invariant, for the count and for the sum alike.
 use borrow.Author.Needs.{needs}
 use mathlib.Core.Path.{_≡_, sym, ap, _∙_}
 use mathlib.Core.Bool.{cond}
@@ -37,7 +38,8 @@ turn s i h c code more x xe me im sum lead le last ce se is =
     let q = stuff-at s i h in
     let m : length (stuff (drop i s)) - (length s - i) ≡ x + (length r - (length s - (i + 1))) =
     omega (arith, ap length q, length-append (stuffByte b) r, more-of b c code x xe, stuff-least (drop (i + 1) s), length-drop (i + 1) s) in
-    let t : total (stuff (drop i s)) ≡ lead + last + total r = ap total q ∙ total-append (stuffByte b) r ∙ ap (λ (n : ℕ). n + total r) (sym (sum-of b c code lead le last ce)) in (
+    let t : total (stuff (drop i s)) ≡ lead + last + total r =
+    ap total q ∙ total-append (stuffByte b) r ∙ ap (λ (n : ℕ). n + total r) (sym (sum-of b c code lead le last ce)) in (
       omega arith,
       running more x (length r - (length s - (i + 1))) me ∙ ap (λ (n : ℕ). (more + n) % 65536) (sym m) ∙ im,
       running sum (lead + last) (total r) se ∙ ap (λ (n : ℕ). (sum + n) % 65536) (sym t) ∙ is,
@@ -99,7 +101,8 @@ loop-again c =
     let i = l .loop .i in
     turn s i (t .loop-test .taken) (e .escape-code .result) (e .escape-code .ensures)
     (l .loop .more) (w1 .wide .result) (w1 .wide .ensures ∙ s1 .select .ensures) (a1 .wrapping-add-u16 .ensures) (l .loop .inv .1)
-    (l .loop .sum) (w2 .wide2 .result) (w2 .wide2 .ensures ∙ s2 .select2 .ensures) (w3 .wide3 .result) (w3 .wide3 .ensures) (c .wrapping-add-u162 .ensures) (l .loop .inv .2)
+    (l .loop .sum) (w2 .wide2 .result) (w2 .wide2 .ensures ∙ s2 .select2 .ensures)
+    (w3 .wide3 .result) (w3 .wide3 .ensures) (c .wrapping-add-u162 .ensures) (l .loop .inv .2)
 
 returns : tie.Need-returns Inv-loop μ-loop
 unfolding sum16

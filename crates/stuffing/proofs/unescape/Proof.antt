@@ -1,4 +1,5 @@
 -- `unescape` meets its contract: each arm is the table's case.
+-- The last arm is for every other number.
 use mathlib.Core.Path.{sym, ap}
 use borrow.Author.Tests.{ne-eqb}
 use Rattle.stuffing.specs.Stuff.{unescapeOf}

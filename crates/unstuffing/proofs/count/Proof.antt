@@ -1,4 +1,5 @@
 -- `count` meets its contract: the bytes that are passed and those that the rest unstuffs to make the whole count.
+-- That is the loop's invariant; the first wrong escape is refused where the walk meets it.
 use borrow.Author.Needs.{needs}
 use mathlib.Core.Path.{_≡_, refl, sym, ap, _∙_}
 use mathlib.Core.List.{List, []}
@@ -6,8 +7,8 @@ use Prim.Native.Nat.{ℕ, _+_, _-_, _≤_}
 use native.Mathlib.Omega.{arith}
 use lib.ListN.{length, drop, getD, drop-of-length-le}
 use Rattle.error.specs.Refusal.{Told, yes, no, onYes}
-use Rattle.unstuffing.specs.Proper.{widthOf}
-use Rattle.unstuffing.specs.Unstuff.{toldU8, after, unstuff}
+use Rattle.unstuffing.specs.Proper.{widthOf, toldU8}
+use Rattle.unstuffing.specs.Unstuff.{after, unstuff}
 use Rattle.unstuffing.proofs.Unstuffing.{width-most, unstuff-at}
 use Rattle.unstuffing.proofs.count.Statement.{statement}
 use Rattle.unstuffing.proofs.count.Tie as tie

@@ -1,4 +1,5 @@
 -- `fault` meets its contract: the selections are its tests.
+-- Both come from `select` and `unescape`.
 use borrow.Author.Needs.{needs}
 use Rattle.unstuffing.proofs.fault.Statement.{statement}
 use Rattle.unstuffing.proofs.fault.Tie as tie

@@ -1,4 +1,5 @@
 -- `last` meets its contract: an empty string has the default.
+-- Any other string has its last byte.
 use borrow.Author.Needs.{needs}
 use mathlib.Core.Path.{sym}
 use native.Mathlib.Omega.{arith}

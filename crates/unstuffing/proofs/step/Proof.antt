@@ -1,4 +1,5 @@
 -- `step` meets its contract: each return is the step's case.
+-- The cases are: no FD, a lone FD, a wrong code, a code.
 use borrow.Author.Needs.{needs}
 use borrow.Author.Tests.{eq-eqb, ne-eqb}
 use mathlib.Core.Path.{_≡_, sym, _∙_}

@@ -1,4 +1,5 @@
 -- `survey` meets its contract: where no pair of neighbours so far is a fault, the whole is proper if the rest is.
+-- That is the loop's invariant, beside the running count of FDs.
 use borrow.Author.Needs.{needs}
 use mathlib.Core.Path.{_≡_, refl, sym, ap, _∙_}
 use mathlib.Core.Bool.{cond}
@@ -135,7 +136,8 @@ returns c =
     let l = t .before in
     let s = l .before .before .args .s .now in
     ending s (l .loop .i) (t .loop-test .left) (l .loop .inv .1)
-    (l .loop .count) (w .wide2 .result) (e .last .result) (e .last .ensures) (w .wide2 .ensures ∙ w .before .select2 .ensures) (a .wrapping-add-u162 .ensures) (l .loop .inv .2)
+    (l .loop .count) (w .wide2 .result) (e .last .result) (e .last .ensures)
+    (w .wide2 .ensures ∙ w .before .select2 .ensures) (a .wrapping-add-u162 .ensures) (l .loop .inv .2)
     (l .loop .faults) (c .fault2 .result) (c .fault2 .ensures) (l .loop .inv .3)
 
 pub survey-spec : {M : Type 1} → statement M

@@ -1,4 +1,5 @@
 -- `unstuffed` meets its contract: a proper string unstuffs to its bytes without the FDs, and these are fewer than 65,536.
+-- Where the survey found a fault, or the string is too long for it, `count` answers.
 use borrow.Author.Needs.{needs}
 use mathlib.Core.Path.{_≡_, sym, ap, _∙_}
 use Prim.Native.Nat.{_+_, _-_}

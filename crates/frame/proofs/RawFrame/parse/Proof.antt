@@ -1,4 +1,5 @@
 -- `RawFrame::parse` meets its contract: a wire is checked, then the room is tested, then its payload is copied.
+-- A refusal leaves the buffer as it was, and a success its rest.
 use borrow.Author.Needs.{needs}
 use mathlib.Core.Path.{_≡_, refl, sym, ap, _∙_}
 use mathlib.Core.List.{List, _++_}
@@ -60,7 +61,9 @@ module _ (c : tie.After-known-told) where
   refused : parseRule (asked .args .wire .now) (length (asked .args .payload .now)) ≡ no (numberOf why) (valuesOf why)
   refused =
       let w = asked .args .wire .now in
-      let t = head-no (checkRule w) w (numberOf why) (valuesOf why) (ap toldHead (sym (c .before .checked .given .1)) ∙ c .before .before .before .check .ensures) in
+      let t =
+      head-no (checkRule w) w (numberOf why) (valuesOf why)
+      (ap toldHead (sym (c .before .checked .given .1)) ∙ c .before .before .before .check .ensures) in
       parse-refused w (length (asked .args .payload .now)) (numberOf why) (valuesOf why) t
 
 check-requires : tie.Need-check-requires

@@ -1,4 +1,5 @@
 -- `escapes` meets its contract: where no byte so far is FD, all of them are kept.
+-- That is the loop's invariant: a flag that is still 0 was never set.
 use borrow.Author.Needs.{needs}
 use mathlib.Core.Path.{_≡_, ap}
 use mathlib.Core.Bool.{cond}
@@ -12,8 +13,8 @@ use lib.ListN.{length, drop, getD, drop-of-length-le}
 use lib.Seq.{drop-cons}
 use Rattle.unstuffing.specs.Proper.{kept}
 use Rattle.unstuffing.proofs.Proper.{both-zero, kept-flag}
-use Rattle.frame.proofs.escapes.Statement.{statement}
-use Rattle.frame.proofs.escapes.Tie as tie
+use Rattle.frame.proofs.copying.escapes.Statement.{statement}
+use Rattle.frame.proofs.copying.escapes.Tie as tie
 
 abbrev Inv-loop : tie.InvT-loop
 Inv-loop a any₀ k₀ any k =
@@ -50,7 +51,8 @@ loop-again c =
     let l = t .before in (
       omega (arith, t .loop-test .taken),
       l .loop .inv .1,
-      turn (l .before .args .t1) (l .loop .k) (l .loop .any) (c .select .result) (omega (arith, t .loop-test .taken, l .loop .inv .1)) (c .select .ensures) (l .loop .inv .2),
+      turn (l .before .args .t1) (l .loop .k) (l .loop .any) (c .select .result)
+          (omega (arith, t .loop-test .taken, l .loop .inv .1)) (c .select .ensures) (l .loop .inv .2),
     )
 
 returns : tie.Need-returns Inv-loop μ-loop

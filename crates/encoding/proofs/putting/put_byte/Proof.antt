@@ -1,4 +1,5 @@
 -- `put_byte` meets its contract: its two stores are those of the stuffed byte.
+-- For a byte without a code both stores are the same one.
 use borrow.Author.Needs.{needs}
 use mathlib.Core.Path.{_≡_}
 use Prim.Native.Nat.{_+_}
@@ -7,8 +8,8 @@ use lib.ListN.{length, length-set}
 use Rattle.stuffing.specs.Stuff.{stuffByte}
 use Rattle.stuffing.proofs.Sums.{more-of}
 use Rattle.encoding.proofs.Stores.{byte-stored}
-use Rattle.encoding.proofs.put_byte.Statement.{statement}
-use Rattle.encoding.proofs.put_byte.Tie as tie
+use Rattle.encoding.proofs.putting.put_byte.Statement.{statement}
+use Rattle.encoding.proofs.putting.put_byte.Tie as tie
 
 -- how far the second store is from the first
 wide : (c : tie.After-select) → c .select .result + 1 ≡ length (stuffByte (c .before .before .before .args .b))

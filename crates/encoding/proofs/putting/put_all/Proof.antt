@@ -1,4 +1,5 @@
 -- `put_all` meets its contract: what is stored, and the stores to come, are those of the stuffed string.
+-- That is the loop's invariant, sixteen bytes to a turn.
 use borrow.Author.Needs.{needs}
 use mathlib.Core.Path.{_≡_, refl, sym, ap, _∙_}
 use mathlib.Core.List.{List, _++_}
@@ -9,8 +10,8 @@ use lib.Seq.{sets, length-sets, length-take-le, take-all}
 use Rattle.stuffing.specs.Stuff.{stuff}
 use Rattle.stuffing.proofs.Stuffing.{stuff-part}
 use Rattle.general.proofs.Stores.{sets-append}
-use Rattle.encoding.proofs.put_all.Statement.{statement}
-use Rattle.encoding.proofs.put_all.Tie as tie
+use Rattle.encoding.proofs.putting.put_all.Statement.{statement}
+use Rattle.encoding.proofs.putting.put_all.Tie as tie
 
 abbrev Inv-loop : tie.InvT-loop
 Inv-loop s buf₀ at i₀ o₀ buf i o =

@@ -1,4 +1,5 @@
 -- `put_each` meets its contract: what is stored, and the stores to come, are those of the stuffed string.
+-- That is the loop's invariant, one byte to a turn.
 use borrow.Author.Needs.{needs}
 use mathlib.Core.Path.{_≡_, refl, sym, ap, _∙_}
 use mathlib.Core.List.{List}
@@ -9,8 +10,8 @@ use lib.Seq.{sets, length-sets}
 use Rattle.stuffing.specs.Stuff.{stuffByte, stuff}
 use Rattle.stuffing.proofs.Stuffing.{stuff-at}
 use Rattle.general.proofs.Stores.{sets-append}
-use Rattle.encoding.proofs.put_each.Statement.{statement}
-use Rattle.encoding.proofs.put_each.Tie as tie
+use Rattle.encoding.proofs.putting.put_each.Statement.{statement}
+use Rattle.encoding.proofs.putting.put_each.Tie as tie
 
 abbrev Inv-loop : tie.InvT-loop
 Inv-loop s buf₀ at i₀ o₀ buf i o =

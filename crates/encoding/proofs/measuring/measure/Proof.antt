@@ -1,13 +1,14 @@
 -- `measure` meets its contract: the parts of a wire are tallied one by one.
+-- Their lengths add up without wrapping, since the payload has at most 65,535 bytes.
 use borrow.Author.Needs.{needs}
 use mathlib.Core.Path.{_≡_}
 use mathlib.Core.List.{List, [], _∷_}
 use Prim.Native.Nat.{ℕ}
 use Rattle.addr.specs.Address.{byteOf}
-use Rattle.encoding.specs.Wire.{fields, csOf}
-use Rattle.encoding.proofs.Writing.{cs-tallied, wire-measured}
-use Rattle.encoding.proofs.measure.Statement.{statement}
-use Rattle.encoding.proofs.measure.Tie as tie
+use Rattle.encoding.specs.Wire.{fields, checksumOf}
+use Rattle.encoding.proofs.Writing.{checksum-tallied, wire-measured}
+use Rattle.encoding.proofs.measuring.measure.Statement.{statement}
+use Rattle.encoding.proofs.measuring.measure.Tie as tie
 
 as-byte-requires : tie.Need-as-byte-requires
 as-byte-requires c κs = search needs
@@ -72,7 +73,8 @@ returns c =
     let f = fields (a .args .dest) (a .args .src) (a .args .type-id) (a .args .payload .now) in
     let head : List ℕ = x .as-byte .result ∷ y .as-byte2 .result ∷ a .args .type-id ∷ [] in
     let is : head ≡ byteOf (f .dest) ∷ byteOf (f .src) ∷ f .type ∷ [] = λ j. x .as-byte .ensures j ∷ y .as-byte2 .ensures j ∷ a .args .type-id ∷ [] in
-    let cs : w .wrapping-add-u16 .result ≡ csOf f = cs-tallied f head is (t1 .tally .ensures .1) (t2 .tally2 .ensures .1) (w .wrapping-add-u16 .ensures) in (
+    let cs : w .wrapping-add-u16 .result ≡ checksumOf f =
+    checksum-tallied f head is (t1 .tally .ensures .1) (t2 .tally2 .ensures .1) (w .wrapping-add-u16 .ensures) in (
       wire-measured f head is (w .wrapping-add-u16 .result) cs (t1 .tally .result .more) (t2 .tally2 .result .more) (t3 .tally3 .result .more)
           (a .pre) (t1 .tally .ensures .0) (t2 .tally2 .ensures .0) (t3 .tally3 .ensures .0),
       cs,

@@ -1,4 +1,5 @@
 -- `walk_sixteen` meets its contract: a block with no FD stands for itself.
+-- A block with an FD, or behind one, goes byte by byte.
 use borrow.Author.Needs.{needs}
 use borrow.Author.Tests.{eq-eqb}
 use mathlib.Core.Path.{_≡_, _∙_}
@@ -9,8 +10,8 @@ use lib.Seq.{take-at}
 use Rattle.unstuffing.specs.Proper.{kept}
 use Rattle.unstuffing.proofs.Proper.{both-zero}
 use Rattle.frame.proofs.Walking.{kept-slots, block-walked}
-use Rattle.frame.proofs.walk_sixteen.Statement.{statement}
-use Rattle.frame.proofs.walk_sixteen.Tie as tie
+use Rattle.frame.proofs.copying.walk_sixteen.Statement.{statement}
+use Rattle.frame.proofs.copying.walk_sixteen.Tie as tie
 
 -- the block is the string
 is-block : (c : tie.After-block) → c .block .result ≡ c .before .before .before .args .s .now
@@ -56,7 +57,8 @@ returns c =
     let s = a .args .s .now in
     let fits : a .args .at + 16 ≤ length (a .args .buf .now) = omega (arith, a .pre .1, kept-slots s, all-kept i) in (
       omega (arith, all-kept i),
-      block-walked s (b .block .result) (a .args .buf .now) (p .put-block .last .1 .0) (a .args .at) (a .args .before) (a .pre .0) (is-block b) (all-kept i) (not-after i) fits (p .put-block .ensures),
+      block-walked s (b .block .result) (a .args .buf .now) (p .put-block .last .1 .0) (a .args .at) (a .args .before)
+          (a .pre .0) (is-block b) (all-kept i) (not-after i) fits (p .put-block .ensures),
     )
 
 walk-requires : tie.Need-walk-requires

@@ -1,4 +1,5 @@
 -- `walk` meets its contract: what is written, and what the bytes that are left stand for, are what the whole stands for.
+-- That is the loop's invariant, one byte to a turn.
 use borrow.Author.Needs.{needs}
 use mathlib.Core.Path.{_≡_, refl, sym, ap, _∙_}
 use mathlib.Core.Bool.{cond}
@@ -12,8 +13,8 @@ use lib.Seq.{drop-cons}
 use Rattle.unstuffing.specs.Proper.{kept}
 use Rattle.frame.specs.Walk.{standsFor, raw, slots}
 use Rattle.frame.proofs.Walking.{slots-step, walk-on}
-use Rattle.frame.proofs.walk.Statement.{statement}
-use Rattle.frame.proofs.walk.Tie as tie
+use Rattle.frame.proofs.copying.walk.Statement.{statement}
+use Rattle.frame.proofs.copying.walk.Tie as tie
 
 abbrev Inv-loop : tie.InvT-loop
 Inv-loop s before buf₀ at p₀ i₀ o₀ buf p i o =
@@ -85,7 +86,9 @@ loop-again c =
       omega (arith, t .loop-test .taken),
       omega (arith, w, ap slots e, slots-step b (drop (i + 1) s), l .loop .inv .1),
       omega (arith, w, ap kept e, l .loop .inv .2),
-      rw w (walk-on (l .loop .buf) (drop (i + 1) s) (l .loop .p) b o (v .select .result) is (inside t) ∙ ap (λ (r : List ℕ). take o (l .loop .buf) ++ raw (l .loop .p) r) (sym e)) ∙ l .loop .inv .3,
+      rw w
+          (walk-on (l .loop .buf) (drop (i + 1) s) (l .loop .p) b o (v .select .result) is (inside t)
+          ∙ ap (λ (r : List ℕ). take o (l .loop .buf) ++ raw (l .loop .p) r) (sym e)) ∙ l .loop .inv .3,
       simp length-set (l .loop .inv .4),
     )
 

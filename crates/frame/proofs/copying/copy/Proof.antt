@@ -1,4 +1,5 @@
 -- `copy` meets its contract: what is written, and what the bytes that are left stand for, are what the whole stands for.
+-- That is the loop's invariant, sixteen bytes to a turn.
 use borrow.Author.Needs.{needs}
 use mathlib.Core.Path.{_≡_, refl, sym, ap, _∙_}
 use mathlib.Core.List.{List, _++_, append-assoc}
@@ -9,8 +10,8 @@ use lib.Seq.{length-take-le, take-all, drop-drop}
 use Rattle.unstuffing.specs.Proper.{kept}
 use Rattle.frame.specs.Walk.{raw, slots}
 use Rattle.frame.proofs.Walking.{length-raw, slots-take, slots-part, raw-part, take-whole}
-use Rattle.frame.proofs.copy.Statement.{statement}
-use Rattle.frame.proofs.copy.Tie as tie
+use Rattle.frame.proofs.copying.copy.Statement.{statement}
+use Rattle.frame.proofs.copying.copy.Tie as tie
 
 abbrev Inv-loop : tie.InvT-loop
 Inv-loop s buf₀ p₀ i₀ o₀ buf p i o =
@@ -94,7 +95,9 @@ loop-again c =
     let i = l .loop .i in
     let e = rw (sixteen i) at (w .walk-sixteen .ensures) in
     let fits : i + 16 ≤ length s = omega (arith, t .loop-test .taken) in
-    let k = turn s (l .loop .buf) (w .walk-sixteen .last .1 .1 .0) (l .loop .p) i (l .loop .o) (w .walk-sixteen .result) (length (a .buf .now)) fits (l .loop .inv .1) (l .loop .inv .2) (e .0) (e .1) in
+    let k =
+    turn s (l .loop .buf) (w .walk-sixteen .last .1 .1 .0) (l .loop .p) i (l .loop .o) (w .walk-sixteen .result) (length (a .buf .now))
+    fits (l .loop .inv .1) (l .loop .inv .2) (e .0) (e .1) in
     (fits, k .0, k .1, w .walk-sixteen .kept .1 .1 .0 ∙ l .loop .inv .3)
 
 sub-walk : tie.Need-sub-walk Inv-loop μ-loop
@@ -121,7 +124,8 @@ returns c =
     let a = l .before .before .before in
     let s = a .args .s .now in
     let e = rw (rest s (l .loop .i)) at (w .walk .ensures .1) ∙ l .loop .inv .2 in
-    sym (take-whole (w .walk .result) (w .walk .last .1 .1 .0) (omega (arith, ap length e, length-raw 0 s, a .pre .0, w .walk .kept .1 .1 .0, l .loop .inv .3))) ∙ e
+    sym (take-whole (w .walk .result) (w .walk .last .1 .1 .0)
+    (omega (arith, ap length e, length-raw 0 s, a .pre .0, w .walk .kept .1 .1 .0, l .loop .inv .3))) ∙ e
 
 pub copy-spec : {M : Type 1} → statement M
 copy-spec =

@@ -1,4 +1,5 @@
 -- `put_sixteen` meets its contract: a block with no code is its own stuffed form.
+-- A block with a code goes byte by byte.
 use borrow.Author.Needs.{needs}
 use mathlib.Core.Path.{_≡_, ap, _∙_}
 use Prim.Native.Nat.{_+_, _≤_}
@@ -7,8 +8,8 @@ use lib.ListN.{length, replicate}
 use lib.Seq.{take-at}
 use Rattle.stuffing.specs.Stuff.{stuff}
 use Rattle.encoding.proofs.Stores.{block-stored}
-use Rattle.encoding.proofs.put_sixteen.Statement.{statement}
-use Rattle.encoding.proofs.put_sixteen.Tie as tie
+use Rattle.encoding.proofs.putting.put_sixteen.Statement.{statement}
+use Rattle.encoding.proofs.putting.put_sixteen.Tie as tie
 
 -- the block is the string
 is-block : (c : tie.After-block) → c .block .result ≡ c .before .before .before .args .s .now

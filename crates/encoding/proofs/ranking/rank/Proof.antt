@@ -1,12 +1,13 @@
 -- `rank` meets its contract: where it is not 0, the byte is none of the four.
+-- Each of the four makes one of the three differences 0.
 use borrow.Author.Needs.{needs}
 use borrow.Author.Tests.{ne-eqb}
 use mathlib.Core.Path.{_≡_}
 use Prim.Native.Nat.{ℕ, _/_, _≤_}
 use native.Mathlib.Omega.{arith}
 use Rattle.stuffing.specs.Stuff.{escapeOf}
-use Rattle.encoding.proofs.rank.Statement.{statement}
-use Rattle.encoding.proofs.rank.Tie as tie
+use Rattle.encoding.proofs.ranking.rank.Statement.{statement}
+use Rattle.encoding.proofs.ranking.rank.Tie as tie
 
 no-code : (b : ℕ) → (b ≡ 0xF0 → ⊥) → (b ≡ 0xF1 → ⊥) → (b ≡ 0xFD → ⊥) → (b ≡ 0xFA → ⊥) → escapeOf b ≡ 0
 unfolding escapeOf

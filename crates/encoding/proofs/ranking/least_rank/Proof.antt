@@ -1,4 +1,5 @@
 -- `least_rank` meets its contract: where no byte so far has a code, they stuff to themselves.
+-- That is the loop's invariant: a least rank above 0 is above 0 for each byte.
 use borrow.Author.Needs.{needs}
 use mathlib.Core.Path.{_≡_, refl}
 use mathlib.Core.List.{List, [], _∷_}
@@ -11,8 +12,8 @@ use lib.Seq.{take-all, take-suc}
 use Rattle.stuffing.specs.Stuff.{escapeOf, stuff}
 use Rattle.stuffing.proofs.Codes.{plain}
 use Rattle.stuffing.proofs.Stuffing.{stuff-append}
-use Rattle.encoding.proofs.least_rank.Statement.{statement}
-use Rattle.encoding.proofs.least_rank.Tie as tie
+use Rattle.encoding.proofs.ranking.least_rank.Statement.{statement}
+use Rattle.encoding.proofs.ranking.least_rank.Tie as tie
 
 abbrev Inv-loop : tie.InvT-loop
 Inv-loop a least₀ k₀ least k =
