@@ -1,6 +1,5 @@
 -- A run of stores that fills a list leaves what was stored.
 -- So the zeros that an array starts with are all gone.
-use Prim.Native.Nat.{ℕ}
 use mathlib.Core.Path.{_≡_, refl, _∙_}
 use mathlib.Core.List.{List, [], _∷_, append-nil}
 use native.Mathlib.Omega.{arith}

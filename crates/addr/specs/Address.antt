@@ -2,7 +2,7 @@
 -- `byteOf` gives each address its byte; `addressRule` reads a byte as an address.
 use Prim.Native.Nat.{ℕ}
 use mathlib.Core.Bool.{cond}
-use mathlib.Core.List.{List, [], _∷_}
+use mathlib.Core.List.{[], _∷_}
 use lib.Dec.{eqb}
 use Rattle.error.specs.Refusal.{Told, yes, no, refused}
 use Rattle.addr.specs.declared.BusAddr.{BusAddr}

@@ -8,7 +8,9 @@ use error::ResultUsize;
 use session::Session;
 
 // No contract can speak of standard input and output, and nothing is lent or answered: it is proved safe, and that it ends.
-pub fn print_all() {
+pub fn print_all()
+    ensures { λ r. ⌜ r ≡ tt ⌝ }
+{
     let mut hold = [0u8; 2048];
     let mut payload = [0u8; 2048];
     let mut piece = [0u8; 8192];

@@ -10,7 +10,7 @@ use lib.Seq.{take-nil, drop-drop, take-take, getD-drop, length-take-le}
 use Rattle.error.specs.Refusal.{Told, yes, onYes}
 use Rattle.stuffing.specs.Stuff.{unescapeOf}
 use Rattle.unstuffing.specs.Unstuff.{unstuff, offsetAt, unitBytes}
-use Rattle.unstuffing.specs.Proper.{Proper, none, byte, escape}
+use Rattle.unstuffing.specs.Private.{Proper, none, byte, escape}
 use Rattle.unstuffing.proofs.Proper.{units, unstuff-proper, proper-of}
 use Rattle.encoding.specs.Wire.{Fields}
 use Rattle.checking.specs.Rule.{interior, payloadOf, unitsOf, headOf}

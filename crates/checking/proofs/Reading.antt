@@ -14,12 +14,12 @@ use Rattle.addr.specs.declared.BusAddr.{BusAddr}
 use Rattle.addr.specs.Address.{addressRule}
 use Rattle.stuffing.specs.Stuff.{unescapeOf, sum16}
 use Rattle.unstuffing.specs.Unstuff.{after, unstuff, byteAt, offsetAt, unitBytes}
-use Rattle.unstuffing.specs.Proper.{Proper, none, byte, escape, kept, widthOf, valueOf}
+use Rattle.unstuffing.specs.Private.{Proper, none, byte, escape, kept, widthOf, valueOf}
 use Rattle.unstuffing.proofs.Proper.{units, unstuff-proper, isYes, proper-of, length-units, kept-most}
 use Rattle.unstuffing.proofs.Parting.{proper-append, kept-append, kept-none, unstuff-join, value-plain, FrontAt, front-at, cutOf, Back, back}
 use Rattle.encoding.specs.Wire.{Fields, fields}
 use Rattle.checking.specs.Rule.{receivedOf, computedOf, payloadOf, addressesRule, head, headAt, unitsOf}
-use Rattle.checking.specs.Walk.{Ends, frontRule}
+use Rattle.checking.specs.Private.{Ends, frontRule}
 
 -- ---- a byte
 

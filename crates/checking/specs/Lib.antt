@@ -1,4 +1,4 @@
 -- What the contract of `check` cites, and every crate that frames pass through.
 -- A client reads Rule; Walk is for the private walks.
 pub mod Rule
-pub mod Walk
+pub mod Private

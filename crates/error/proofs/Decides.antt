@@ -12,7 +12,7 @@ use Rattle.general.proofs.One.{one-reply}
 use Rattle.error.specs.declared.WireError.{WireError}
 use Rattle.error.specs.declared.WireError.the-variants.{FrameTooShort, MissingStart, MissingEnd, InvalidEscape, ChecksumMismatch, UnknownBusAddr}
 use Rattle.error.specs.declared.WireError.the-variants.{PayloadTooShort, NoRoom, BadState, PayloadTooLong, NoField}
-use Rattle.error.specs.Refusal.{Told, yes, no, numberOf, valuesOf, refused}
+use Rattle.error.specs.Refusal.{Told, yes, no, numberOf, valuesOf}
 use Rattle.error.specs.declared.ResultUnit.{ResultUnit}
 use Rattle.error.specs.declared.ResultUnit.the-variants as unit
 use Rattle.error.specs.declared.ResultI16.{ResultI16}

@@ -20,7 +20,7 @@ use Rattle.numbers.specs.declared.Message.{Message}
 use Rattle.numbers.specs.Numbers.{shapeOf, wholeOf, scaleOf, scaleRule, float}
 use Rattle.numbers.proofs.Divisors.{divisors}
 use Rattle.flight.specs.Decoding.{Numbers, zeros, decodeRule}
-use Rattle.flight.specs.ByList.{numbersIn, divided, figureIn}
+use Rattle.flight.specs.Private.{numbersIn, divided, figureIn}
 use Rattle.flight.proofs.Ruled.{figured, ruled}
 
 module _ {A : Type 0} (m : Message) (fill : Numbers → A) (p : List ℕ) {r : A} where

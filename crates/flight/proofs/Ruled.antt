@@ -14,10 +14,10 @@ use Rattle.general.proofs.Table.{at}
 use Rattle.numbers.specs.declared.Message.{Message}
 use Rattle.numbers.specs.declared.Message.the-variants.{FlightResult, FlightResultV1, ClubResult}
 use Rattle.numbers.specs.Numbers.{countOf, wholeOf, ruleOf, scaleOf, to}
-use Rattle.numbers.specs.Listing.{ruleCode}
+use Rattle.numbers.specs.Private.{ruleCode}
 use Rattle.numbers.proofs.Divisors.{divisors, listed, kept}
 use Rattle.flight.specs.Decoding.{Numbers, numbersOf}
-use Rattle.flight.specs.ByList.{numbersIn, entryAt}
+use Rattle.flight.specs.Private.{numbersIn, entryAt}
 
 -- the 36 coefficients of ED have one rule: one computed test over its 55 numbers
 shared : (n : ℕ) → n < 55 → ruleCode (ruleOf ClubResult (cond (to 16 51 n) 16 n)) ≡ ruleCode (ruleOf ClubResult n)

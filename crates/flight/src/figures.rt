@@ -5,7 +5,7 @@ ghost use Prim.Native.Nat.{_+_, _*_, _<_, _≤_};
 ghost use lib.ListN.{length};
 ghost use Rattle.integer.specs.Fields.{intAt};
 ghost use Rattle.layout.specs.Layout.{row};
-ghost use Rattle.flight.specs.ByList.{divided, figureIn};
+ghost use Rattle.flight.specs.Private.{divided, figureIn};
 use integer::int24_at;
 use numbers::figure;
 

@@ -5,7 +5,7 @@ ghost use Prim.Native.Nat.{_≤_};
 ghost use lib.ListN.{length};
 ghost use Rattle.numbers.specs.Numbers.{shapeOf};
 ghost use Rattle.flight.specs.Decoding.{decodeRule, zeros};
-ghost use Rattle.flight.specs.ByList.{numbersIn};
+ghost use Rattle.flight.specs.Private.{numbersIn};
 ghost use Rattle.flight.specs.FlightResultV1Fields.{flightResultV1, toldFlightResultV1};
 ghost use Rattle.flight.specs.Failure.{noRead};
 use crate::figures::figure_at;

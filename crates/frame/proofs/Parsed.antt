@@ -9,7 +9,7 @@ use lib.ListN.{length, take, drop, length-map}
 use borrow.Author.Tests.{ltb-false}
 use Rattle.error.specs.Refusal.{Told, yes, no, onYes}
 use Rattle.unstuffing.specs.Unstuff.{unitBytes}
-use Rattle.unstuffing.specs.Proper.{kept}
+use Rattle.unstuffing.specs.Private.{kept}
 use Rattle.unstuffing.proofs.Proper.{units, unstuff-proper, length-units}
 use Rattle.checking.specs.declared.Head.{Head}
 use Rattle.checking.specs.Rule.{headOf}
@@ -17,7 +17,7 @@ use Rattle.checking.proofs.Checked.{Checked, checked, passed, got}
 use Rattle.checking.proofs.Located.{Located, located}
 use Rattle.frame.specs.Wire.{Fields}
 use Rattle.frame.specs.Rule.{checkRule, roomRule, parseRule}
-use Rattle.frame.specs.Walk.{raw, slots}
+use Rattle.frame.specs.Private.{raw, slots}
 use Rattle.frame.proofs.Walking.{raw-proper, slots-proper}
 
 pub parsed : (w : List ℕ) (room : ℕ) (f : Fields) → parseRule w room ≡ yes f → (Checked w f) × (length (f .payload) ≤ room)

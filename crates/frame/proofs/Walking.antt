@@ -14,9 +14,9 @@ use borrow.Author.Tests.{eq-eqb, ne-eqb, le-leb}
 use Rattle.general.proofs.Cases.{by-test, by-eq}
 use Rattle.stuffing.specs.Stuff.{unescapeOf}
 use Rattle.unstuffing.specs.Unstuff.{unitBytes}
-use Rattle.unstuffing.specs.Proper.{Proper, none, byte, escape, kept}
+use Rattle.unstuffing.specs.Private.{Proper, none, byte, escape, kept}
 use Rattle.unstuffing.proofs.Proper.{units, code-other, kept-most}
-use Rattle.frame.specs.Walk.{standsFor, raw, slots}
+use Rattle.frame.specs.Private.{standsFor, raw, slots}
 
 -- ---- what is written
 

@@ -2,4 +2,4 @@
 -- A client reads Wire and Rule; Walk is for the private walks.
 pub mod Wire
 pub mod Rule
-pub mod Walk
+pub mod Private

@@ -14,7 +14,7 @@ use Rattle.integer.specs.Fields.{scaledBy}
 use Rattle.numbers.specs.declared.Message.{Message}
 use Rattle.numbers.specs.declared.Message.the-variants.{FlightResult, FlightResultV1, ClubResult}
 use Rattle.numbers.specs.Numbers.{Rule, count, hundredths, thousandths, millionths, scaled, shapeOf, countOf, ruleOf}
-use Rattle.numbers.specs.Listing.{ruleCode}
+use Rattle.numbers.specs.Private.{ruleCode}
 use Rattle.numbers.specs.Numbers.{divisorOf, entryOf, wholeOf, scaleOf, figureOf}
 
 abbrev pub divisors : List ℕ

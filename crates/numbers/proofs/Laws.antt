@@ -13,7 +13,7 @@ use borrow.Author.Tests.{eq-eqb, ne-eqb, ltb-true, ltb-false}
 use Rattle.numbers.specs.declared.Message.{Message}
 use Rattle.numbers.specs.declared.Message.the-variants.{FlightResult, FlightResultV1, ClubResult}
 use Rattle.numbers.specs.Numbers.{shapeOf, countOf, atLeastOne, Rule, count, hundredths, thousandths, millionths, scaled}
-use Rattle.numbers.specs.Listing.{ruleCode}
+use Rattle.numbers.specs.Private.{ruleCode}
 use Rattle.general.specs.Number.{nonzero}
 use Rattle.numbers.specs.Asked.{shownBy, whole, figure}
 

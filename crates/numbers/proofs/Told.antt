@@ -11,7 +11,7 @@ use Rattle.integer.specs.Fields.{scaledBy}
 use Rattle.numbers.specs.declared.Message.{Message}
 use Rattle.numbers.specs.declared.Shape.{Shape}
 use Rattle.numbers.specs.Numbers.{shapeOf, ruleOf, entryOf, wholeOf, scaleOf, figureOf}
-use Rattle.numbers.specs.Listing.{ruleCode}
+use Rattle.numbers.specs.Private.{ruleCode}
 use Rattle.numbers.specs.Asked.{whole, figure, fieldRule, numberAt}
 use Rattle.numbers.proofs.Laws.{counted, divided}
 use Rattle.numbers.proofs.Divisors.{kept}

@@ -2,4 +2,4 @@
 -- Numbers and Asked are for a client; Listing is for private contracts.
 pub mod Numbers
 pub mod Asked
-pub mod Listing
+pub mod Private

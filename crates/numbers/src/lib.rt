@@ -4,7 +4,7 @@ ghost use mathlib.Core.Path.{_≡_};
 ghost use Prim.Native.Nat.{_<_};
 ghost use Rattle.integer.specs.Fields.{scaledBy};
 ghost use Rattle.numbers.specs.Numbers.{shapeOf, countOf, wholeOf, ruleOf, entryOf, float, scaleRule};
-ghost use Rattle.numbers.specs.Listing.{ruleCode};
+ghost use Rattle.numbers.specs.Private.{ruleCode};
 ghost use Rattle.numbers.specs.Asked.{toldField, fieldRule};
 
 mod table;

@@ -8,10 +8,8 @@ use lib.ListN.{length, take, drop}
 use lib.Seq.{take-at}
 use Rattle.error.specs.Refusal.{Told, yes, no, onYes, filled}
 use Rattle.error.specs.Result.{toldUsize}
-use Rattle.error.specs.declared.ResultUsize.{ResultUsize}
 use Rattle.error.specs.declared.ResultUsize.the-variants as usize
 use Rattle.encoding.proofs.Cases.{encode-fits}
-use Rattle.frame.specs.declared.ResultRawFrame.{ResultRawFrame}
 use Rattle.frame.specs.Wire.{Fields, fields, wireOf}
 use Rattle.frame.specs.Rule.{encodeRule, parseRule, headerOf, toldRawFrame}
 use Rattle.frame.proofs.Round.{round-trip}

@@ -1,6 +1,6 @@
 -- Condition 3, for every cutting: `condition-3`, whose type is the statement in specs/.
 -- `recovered` is the same for calls that are each offered any number of the bytes that come next.
-use mathlib.Core.Path.{_≡_, refl, sym, ap, _∙_}
+use mathlib.Core.Path.{_≡_, sym, ap, _∙_}
 use mathlib.Core.List.{List, [], _∷_, _++_, append-assoc, append-nil}
 use Prim.Native.Nat.{ℕ, suc, _+_}
 use native.Mathlib.Omega.{arith}
@@ -8,13 +8,11 @@ use lib.Dec.{leb}
 use lib.ListN.{length, length-append, replicate-append-replicate}
 use Rattle.general.proofs.Cases.{by-test}
 use Rattle.error.specs.Refusal.{yes}
-use Rattle.search.specs.First.{indexOf}
 use Rattle.splitter.specs.declared.FrameSplitter.{FrameSplitter}
 use Rattle.splitter.specs.Feed.{more, overlong, frame, new}
-use Rattle.stream.specs.Stream.{Said, Call, Calls, takenBy, answers, answerTo}
+use Rattle.stream.specs.Stream.{Said, Call, Calls, takenBy, answerTo}
 use Rattle.stream.specs.Heard.{heard}
-use Rattle.stream.specs.Rust.{turns}
-use Rattle.stream.proofs.Line.{opened, hear, silence, hear-append, hear-length}
+use Rattle.stream.proofs.Line.{hear, silence, hear-append, hear-length}
 use Rattle.stream.proofs.Calls.{stands-fresh}
 use Rattle.stream.proofs.Stream.{Plain, Follows, follows, spoken, answers-heard}
 use Rattle.stream.proofs.Rust.{line-says}
@@ -22,7 +20,7 @@ use Rattle.stream.proofs.Ends.{feeds-calls}
 use Rattle.frame.proofs.Round.{round-trip}
 use Rattle.frame.proofs.Wires.{Framed}
 use Rattle.recovery.specs.Recovery.{Sent, wires, pending, answersFor, InOrder, end, then, HandedOver, Condition3}
-use Rattle.recovery.proofs.Upto.{Upto, upto, said-as, Past, past}
+use Rattle.recovery.proofs.Upto.{Upto, upto, said-as, past}
 use Rattle.recovery.proofs.Wires.{open-after, Over, over-wire, fits-said, sent-framed}
 
 -- ---- a wire's answer falls at its end

@@ -1,6 +1,6 @@
 -- The line after noise, and over a wire: an unclosed start that is pending is what is open, and a wire is answered at its end marker.
 -- A sound frame fits, so with nothing open it is answered whole.
-use mathlib.Core.Path.{_≡_, refl, sym, ap, subst, _∙_}
+use mathlib.Core.Path.{_≡_, refl, sym, ap, subst}
 use mathlib.Core.Bool.{true, false, cond}
 use mathlib.Core.List.{List, [], _∷_, _++_, append-assoc, append-nil}
 use Prim.Native.Nat.{ℕ, suc, _+_, _≤_}

@@ -11,7 +11,7 @@ use borrow.Author.Tests.{le-leb, lt-leb}
 use Rattle.error.specs.Refusal.{Told, yes, no}
 use Rattle.report.specs.Text.{decimalOf, hexOf}
 use Rattle.report.specs.Line.{spaced, fitted, frameText, longText, endText, Lined, resultWords}
-use Rattle.report.specs.Put.{Put}
+use Rattle.report.specs.Private.{Put}
 use Rattle.frame.specs.declared.RawFrame.{RawFrame}
 use Rattle.report.proofs.Decimal.{length-small}
 use Rattle.report.proofs.Stores.{sets-front, put-last, put-length}

@@ -9,7 +9,7 @@ use native.Mathlib.Omega.{arith}
 use lib.ListN.{length, take, drop, getD, set, length-append}
 use lib.Seq.{sets, sets-eq, length-sets, take-suc, length-take-le}
 use Rattle.general.proofs.Stores.{sets-append}
-use Rattle.report.specs.Put.{Put}
+use Rattle.report.specs.Private.{Put}
 
 pub sets-front : (d t : List ℕ) → length t ≤ length d → sets d 0 t ≡ t ++ drop (length t) d
 sets-front d t h = let e : 0 + length t ≡ length t = omega arith in sets-eq t d 0 (omega arith) ∙ ap (λ (k : ℕ). t ++ drop k d) e

@@ -4,7 +4,7 @@ ghost use mathlib.Core.Path.{_≡_};
 ghost use Prim.Native.Nat.{_+_, _≤_, _<_};
 ghost use lib.ListN.{length};
 ghost use Rattle.report.specs.Text.{hexDigit, decimalOf};
-ghost use Rattle.report.specs.Put.{Put};
+ghost use Rattle.report.specs.Private.{Put};
 
 // How many digits a number has.
 pub(crate) fn digits(n: u64) -> usize

@@ -5,7 +5,7 @@ ghost use mathlib.Core.List.{_∷_};
 ghost use Prim.Native.Nat.{_+_, _≤_, _<_};
 ghost use lib.ListN.{length};
 ghost use Rattle.report.specs.Text.{decimalOf, hexOf};
-ghost use Rattle.report.specs.Put.{Put};
+ghost use Rattle.report.specs.Private.{Put};
 use crate::number::hex_digit;
 use crate::number::put_decimal;
 

@@ -8,7 +8,7 @@ ghost use Rattle.error.specs.Refusal.{valuesOf};
 ghost use Rattle.frame.specs.Rule.{toldRawFrame};
 ghost use Rattle.report.specs.Text.{decimalOf};
 ghost use Rattle.report.specs.Line.{spaced, fieldWords, resultWords};
-ghost use Rattle.report.specs.Put.{Put};
+ghost use Rattle.report.specs.Private.{Put};
 use crate::number::digits;
 use crate::place::put_byte;
 use crate::place::put_number;

@@ -15,7 +15,7 @@ use Rattle.splitter.specs.Feed.{givenBy}
 use Rattle.stream.specs.Stream.{Said, saidOf}
 use Rattle.session.specs.Lines.{lineTo, numberTo}
 use Rattle.session.specs.Piece.{Stage, stage, fed, said, payloadTo}
-use Rattle.session.specs.Event.{countOf, Wrote, Stepped, stepOf}
+use Rattle.session.specs.Private.{countOf, Wrote, Stepped, stepOf}
 
 pub wrote : (text old : List ℕ) (told : Told ℕ) (new : List ℕ) → Lined text old told new → 128 ≤ length old → Wrote text old (countOf told) new
 unfolding fitted

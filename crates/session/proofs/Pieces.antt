@@ -14,7 +14,7 @@ use Rattle.splitter.proofs.Laws.{good-after}
 use Rattle.stream.proofs.Ends.{feed-within, feed-moves}
 use Rattle.session.specs.declared.Step.{Step}
 use Rattle.session.specs.Piece.{Stage, stage, fed, stageAfter, Work, work, behind, works, done, allLines, eventText}
-use Rattle.session.specs.Event.{Stepped}
+use Rattle.session.specs.Private.{Stepped}
 
 works-end : (k : ℕ) (t : Stage) → works k t [] ≡ work [] t
 unfolding works

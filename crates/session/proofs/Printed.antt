@@ -19,13 +19,12 @@ use Rattle.splitter.specs.declared.FrameSplitter.{FrameSplitter}
 use Rattle.splitter.specs.Feed.{Given, new, toldEvent, isBad, more, overlong, frame}
 use Rattle.stream.specs.Stream.{Said, saidOf, Call, Calls, Feeds, joined, unlessMore, answers, answerTo}
 use Rattle.stream.specs.Stream as stream
-use Rattle.stream.specs.Rust.{rustFrames}
+use Rattle.stream.specs.Rust.{rustFrames, rustLeft}
 use Rattle.stream.proofs.Calls.{Stands, fits, long, stands-fresh, stands-good, Agrees, one-call}
 use Rattle.splitter.proofs.One.{fedOf}
 use Rattle.stream.proofs.Ends.{allowed, feeds-calls}
-use Rattle.stream.proofs.Line.{opened}
 use Rattle.stream.proofs.Stream.{follows}
-use Rattle.stream.proofs.Rust.{as-the-rust}
+use Rattle.stream.proofs.Rust.{as-the-rust, line-leaves}
 use Rattle.report.specs.Line.{endText, fitted, Lined}
 use Rattle.session.specs.declared.Ran.{Ran}
 use Rattle.session.specs.Lines.{lineTo, numberTo, linesOf, endTo}
@@ -151,13 +150,13 @@ stands-end (long l n m) = rw (lt-leb _ _ l, n, m)
 
 -- H is the hold buffer's length; the Rust is fed the same bytes, cut in any other way
 pub prints : {h p : List ℕ} {cs : List (List ℕ)} {printed : List ℕ} (ds : List (List ℕ)) → joined cs ≡ joined ds → Run h p cs printed
-    → printed ≡ linesOf (length p) 0 (map (answerTo (length h)) (rustFrames [] ds)) ++ endTo (length h) (opened [] (joined ds))
+    → printed ≡ linesOf (length p) 0 (map (answerTo (length h)) (rustFrames [] ds)) ++ endTo (length h) (rustLeft [] ds)
 prints {h} {p} ds e r =
     let c : Calls new h (joined ds) _ (r .stage .session .splitter) (r .stage .hold) = rw e at (calls (r .pieces)) in
     let f = follows [] (stands-fresh new h) c in
     let lines = traces (r .pieces) .text ∙ ap (linesOf (length p) 0) (as-the-rust ds c) in
     let shown = line-shown (r .last) (omega (arith, r .last .short, r .room)) in
-    let last = shown ∙ stands-end (f .stands) ∙ ap (λ (n : ℕ). endTo n (opened [] (joined ds))) (f .size) in
+    let last = shown ∙ stands-end (f .stands) ∙ (λ i. endTo (f .size i) (line-leaves ds i)) in
     r .whole ∙ (λ i. lines i ++ last i)
 
 -- pieces of one stream, cut in two ways, with buffers of equal lengths, whatever they hold
@@ -165,5 +164,5 @@ pub any-cut : {h p h′ p′ : List ℕ} {cs cs′ : List (List ℕ)} {printed p
     → Run h p cs printed → Run h′ p′ cs′ printed′ → printed ≡ printed′
 any-cut {cs′ = ds} eh ep e r r′ =
     prints ds e r
-    ∙ (λ i. linesOf (ep i) 0 (map (answerTo (eh i)) (rustFrames [] ds)) ++ endTo (eh i) (opened [] (joined ds)))
+    ∙ (λ i. linesOf (ep i) 0 (map (answerTo (eh i)) (rustFrames [] ds)) ++ endTo (eh i) (rustLeft [] ds))
     ∙ sym (prints ds refl r′)

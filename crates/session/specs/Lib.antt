@@ -1,6 +1,6 @@
 -- What the contracts of `session`, and the theorems on what the program prints, cite.
--- `Event` is for the private functions.
+-- A client may skip `Private`.
 pub mod Lines
 pub mod Piece
-pub mod Event
+pub mod Private
 pub mod Program

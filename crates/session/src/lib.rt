@@ -10,7 +10,7 @@ ghost use Rattle.splitter.specs.Feed.{new, isBad, frame};
 ghost use Rattle.report.specs.Line.{longText};
 ghost use Rattle.session.specs.Lines.{lineTo};
 ghost use Rattle.session.specs.Piece.{stage, payloadTo, roomFor, allLines, pieceRule, frontOf, doneBy};
-ghost use Rattle.session.specs.Event.{countOf, Wrote, stepOf, Stepped};
+ghost use Rattle.session.specs.Private.{countOf, Wrote, stepOf, Stepped};
 use error::ResultUsize;
 use error::WireError;
 use frame::RawFrame;

@@ -1,6 +1,6 @@
 -- However the stream is cut, for the Rust and for the port, the port's answers are the Rust's frames, those longer than H replaced.
 -- `line-says` has what a stream calls for, `as-the-rust` what calls over it answer.
-use mathlib.Core.Path.{_≡_, refl, sym, ap, _∙_}
+use mathlib.Core.Path.{_≡_, refl, sym, ap, subst, _∙_}
 use mathlib.Core.Bool.{false}
 use mathlib.Core.List.{List, [], _∷_, _++_, map, map-append}
 use Prim.Native.Nat.{ℕ, zero, suc, _+_, _≤_, _<_}
@@ -16,7 +16,7 @@ use Rattle.splitter.specs.declared.FrameSplitter.{FrameSplitter}
 use Rattle.search.specs.First.{indexOf}
 use Rattle.search.proofs.First.{found}
 use Rattle.splitter.specs.Feed.{new}
-use Rattle.stream.specs.Rust.{Rust, left, push, turn, turns, rustFeed, rustFrames}
+use Rattle.stream.specs.Rust.{Rust, left, push, turn, turns, rustFeed, rustFrames, rustLeft}
 use Rattle.stream.specs.Stream.{Call, Calls, joined, unlessMore, answers, answerTo}
 use Rattle.stream.specs.Heard.{atLast}
 use Rattle.stream.proofs.Line.{after, opened, hear, hear-append, opened-append}
@@ -133,8 +133,21 @@ module _ (H : ℕ) where
       let rest : spoken (hear H (opened w d) (joined ds)) ≡ map (answerTo H) (rustFrames (opened w d) ds) = rust-says (opened w d) ds (begun w d k) in
       rw (hear-append, spoken-append, says, rest, leaves) (sym (map-append (answerTo H) (rustFeed w d .frames) (rustFrames (rustFeed w d .buf) ds)))
 
+  rust-leaves : (w : List ℕ) (ds : List (List ℕ)) → Begun w → opened w (joined ds) ≡ rustLeft w ds
+  rust-leaves w [] k = refl
+  rust-leaves w (d ∷ ds) k =
+      let r : Loops (w ++ d) (rustFeed w d) = loops (suc (length (w ++ d))) (w ++ d) (omega arith) in
+      let leaves : opened w d ≡ rustFeed w d .buf = rw (opened-append, k .still) at (r .leaves) in
+      opened-append w d (joined ds)
+      ∙ ap (λ (b : List ℕ). opened b (joined ds)) leaves
+      ∙ rust-leaves (rustFeed w d .buf) ds (subst Begun leaves (begun w d k))
+
 pub line-says : (H : ℕ) (ds : List (List ℕ)) → spoken (hear H [] (joined ds)) ≡ map (answerTo H) (rustFrames [] ds)
 line-says H ds = rust-says H [] ds (record { quiet = refl; still = refl })
+
+-- what is left open is the buffer that the Rust keeps
+pub line-leaves : (ds : List (List ℕ)) → opened [] (joined ds) ≡ rustLeft [] ds
+line-leaves ds = rust-leaves 0 [] ds (record { quiet = refl; still = refl })
 
 -- The Rust is fed the data ds, one after the other; the port the same bytes, from fresh, cut in any way.
 pub as-the-rust : {h : List ℕ} {t : List Call} {s : FrameSplitter} {k : List ℕ} (ds : List (List ℕ)) → Calls new h (joined ds) t s k

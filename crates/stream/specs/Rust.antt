@@ -43,3 +43,8 @@ rustFeed buf more = turns (suc (length (buf ++ more))) (buf ++ more)
 abbrev pub rustFrames : List ℕ → List (List ℕ) → List (List ℕ)
 rustFrames buf [] = []
 rustFrames buf (d ∷ ds) = rustFeed buf d .frames ++ rustFrames (rustFeed buf d .buf) ds
+
+-- the buffer after them: what is left open
+abbrev pub rustLeft : List ℕ → List (List ℕ) → List ℕ
+rustLeft buf [] = buf
+rustLeft buf (d ∷ ds) = rustLeft (rustFeed buf d .buf) ds

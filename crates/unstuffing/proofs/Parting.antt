@@ -11,7 +11,7 @@ use borrow.Author.Tests.{eq-eqb, ne-eqb}
 use Rattle.error.specs.Refusal.{Told, yes}
 use Rattle.stuffing.specs.Stuff.{unescapeOf}
 use Rattle.unstuffing.specs.Unstuff.{escapeAt, stepAt, after, unstuff}
-use Rattle.unstuffing.specs.Proper.{Proper, none, byte, escape, kept, widthOf, valueOf}
+use Rattle.unstuffing.specs.Private.{Proper, none, byte, escape, kept, widthOf, valueOf}
 use Rattle.unstuffing.proofs.Unstuffing.{step-plain, step-escape, width-most, unstuff-at}
 use Rattle.unstuffing.proofs.Proper.{units, code-other}
 

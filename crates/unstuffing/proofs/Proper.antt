@@ -3,7 +3,7 @@
 use mathlib.Core.Path.{_≡_, refl, ap, _∙_}
 use mathlib.Core.Bool.{cond}
 use mathlib.Core.List.{List, [], _∷_}
-use Prim.Native.Nat.{ℕ, _+_, _-_, _≤_}
+use Prim.Native.Nat.{ℕ, _+_, _≤_}
 use native.Mathlib.Omega.{arith}
 use lib.Bits.{bitOr, or-add-and, and-le-l, and-le-r}
 use lib.Dec.{eqb}
@@ -12,7 +12,7 @@ use borrow.Author.Tests.{eq-eqb, ne-eqb}
 use Rattle.error.specs.Refusal.{Told, yes, no}
 use Rattle.general.proofs.Cases.{by-test, by-eq}
 use Rattle.stuffing.specs.Stuff.{unescapeOf}
-use Rattle.unstuffing.specs.Proper.{Proper, none, byte, escape, kept}
+use Rattle.unstuffing.specs.Private.{Proper, none, byte, escape, kept}
 use Rattle.unstuffing.specs.Unstuff.{escapeAt, stepAt, after, unstuff}
 use Rattle.unstuffing.proofs.Unstuffing.{step-plain, step-escape}
 

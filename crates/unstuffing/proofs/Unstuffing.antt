@@ -13,7 +13,7 @@ use borrow.Author.Tests.{ne-eqb}
 use Rattle.error.specs.Refusal.{yes, onYes}
 use Rattle.general.proofs.Cases.{by-test, by-eq}
 use Rattle.stuffing.specs.Stuff.{escapeOf, unescapeOf, stuffByte, stuff}
-use Rattle.unstuffing.specs.Proper.{widthOf}
+use Rattle.unstuffing.specs.Private.{widthOf}
 use Rattle.unstuffing.specs.Unstuff.{escapeAt, stepAt, after, unstuff, offsetAt, unitBytes}
 use Rattle.stuffing.proofs.Codes.{plain, escaped, unescape-escape}
 

@@ -8,7 +8,7 @@ ghost use lib.ListN.{length, getD, drop};
 ghost use Rattle.error.specs.Refusal.{onYes};
 ghost use Rattle.error.specs.Result.{toldUsize};
 ghost use Rattle.stuffing.specs.Stuff.{unescapeOf};
-ghost use Rattle.unstuffing.specs.Proper.{Proper, kept, toldU8};
+ghost use Rattle.unstuffing.specs.Private.{Proper, kept, toldU8};
 ghost use Rattle.unstuffing.specs.Unstuff.{stepAt, unstuff};
 use error::ResultUsize;
 use error::WireError;

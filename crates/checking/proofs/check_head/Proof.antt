@@ -10,9 +10,9 @@ use Rattle.addr.specs.declared.BusAddr.{BusAddr}
 use Rattle.addr.specs.declared.ResultBusAddr.the-variants.{Ok, Err}
 use Rattle.addr.specs.Address.{addressRule, toldBusAddr}
 use Rattle.unstuffing.specs.Unstuff.{unstuff}
-use Rattle.unstuffing.specs.Proper.{valueOf}
+use Rattle.unstuffing.specs.Private.{valueOf}
 use Rattle.checking.specs.Rule.{head}
-use Rattle.checking.specs.Walk.{frontRule}
+use Rattle.checking.specs.Private.{frontRule}
 use Rattle.checking.proofs.Reading.{dest-inside, src-proper, src-inside, type-proper, type-inside, payload-inside, head-told}
 use Rattle.checking.proofs.check_head.Statement.{statement}
 use Rattle.checking.proofs.check_head.Tie as tie

@@ -10,11 +10,11 @@ use lib.Seq.{length-take-le}
 use Rattle.error.specs.Refusal.{Told, no, onYes, andThen}
 use Rattle.stuffing.specs.Stuff.{sum16}
 use Rattle.unstuffing.specs.Unstuff.{unstuff}
-use Rattle.unstuffing.specs.Proper.{widthOf, valueOf}
+use Rattle.unstuffing.specs.Private.{widthOf, valueOf}
 use Rattle.unstuffing.proofs.Proper.{unstuff-proper}
 use Rattle.encoding.specs.Wire.{Fields}
 use Rattle.checking.specs.Rule.{receivedOf, computedOf, addressesRule, sumRule, headAt}
-use Rattle.checking.specs.Walk.{frontRule}
+use Rattle.checking.specs.Private.{frontRule}
 use Rattle.checking.proofs.Cases.{mismatch, matching}
 use Rattle.checking.proofs.Reading.{received-is, computed-is, head-is, body-units, units-are, body-kept, length-body}
 use Rattle.checking.proofs.check_sum.Statement.{statement}

@@ -7,7 +7,7 @@ use lib.ListN.{length, take}
 use lib.Seq.{length-take-le}
 use Rattle.unstuffing.proofs.Proper.{kept-most}
 use Rattle.unstuffing.proofs.Parting.{cutOf}
-use Rattle.checking.specs.Walk.{Ends}
+use Rattle.checking.specs.Private.{Ends}
 use Rattle.checking.proofs.Reading.{ends}
 use Rattle.checking.proofs.checksum_at.Statement.{statement}
 use Rattle.checking.proofs.checksum_at.Tie as tie

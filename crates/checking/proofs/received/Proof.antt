@@ -4,7 +4,7 @@ use borrow.Author.Needs.{needs}
 use mathlib.Core.Path.{ap, _∙_}
 use Prim.Native.Nat.{ℕ, _+_, _*_}
 use lib.ListN.{drop}
-use Rattle.unstuffing.specs.Proper.{valueOf}
+use Rattle.unstuffing.specs.Private.{valueOf}
 use Rattle.checking.proofs.Reading.{high-inside, low-proper, low-inside}
 use Rattle.checking.proofs.received.Statement.{statement}
 use Rattle.checking.proofs.received.Tie as tie

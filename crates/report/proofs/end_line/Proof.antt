@@ -6,7 +6,7 @@ use native.Mathlib.Omega.{arith}
 use lib.ListN.{length, length-set}
 use Rattle.report.specs.Text.{decimalOf}
 use Rattle.report.specs.Line.{endText}
-use Rattle.report.specs.Put.{Put}
+use Rattle.report.specs.Private.{Put}
 use Rattle.report.proofs.Stores.{put-then, put-length}
 use Rattle.report.proofs.Lines.{refused-line, end-room, ended-line, mark-length, endFront, end-parts, end-length}
 use borrow.Author.Needs.{needs}

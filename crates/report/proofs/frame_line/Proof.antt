@@ -7,7 +7,7 @@ use native.Mathlib.Omega.{arith}
 use lib.ListN.{length, length-set}
 use Rattle.frame.specs.Rule.{toldRawFrame}
 use Rattle.report.specs.Line.{frameText}
-use Rattle.report.specs.Put.{Put}
+use Rattle.report.specs.Private.{Put}
 use Rattle.report.proofs.Stores.{put-then, put-length}
 use Rattle.report.proofs.Lines.{refused-line, end-room, ended-line, frameFront, frame-parts, frame-length}
 use borrow.Author.Needs.{needs}

@@ -5,7 +5,7 @@ use mathlib.Core.List.{List, _++_}
 use native.Mathlib.Omega.{arith}
 use lib.ListN.{length, take, drop, length-drop}
 use Rattle.session.specs.Piece.{Stage, stage}
-use Rattle.session.specs.Event.{Stepped}
+use Rattle.session.specs.Private.{Stepped}
 use Rattle.session.proofs.Pieces.{part-from, Going, going, size, space, moves, goes-on, finished}
 use Rattle.session.proofs.all_lines.Statement.{statement}
 use Rattle.session.proofs.all_lines.Tie as tie

@@ -10,7 +10,7 @@ use Rattle.error.specs.Refusal.{yes}
 use Rattle.stream.specs.Stream.{Said, saidOf}
 use Rattle.session.specs.Lines.{lineTo, numberTo}
 use Rattle.session.specs.Piece.{Stage, stage, payloadTo}
-use Rattle.session.specs.Event.{Wrote, Stepped, stepOf}
+use Rattle.session.specs.Private.{Wrote, Stepped, stepOf}
 use Rattle.session.proofs.Events.{stepped, silent}
 use borrow.Author.Needs.{needs}
 use Rattle.session.proofs.next_event.Statement.{statement}

@@ -1,6 +1,6 @@
 -- `stays` meets its contract: at each `return` the test that led there says which case of `goesOn` holds.
 -- The bytes that are held are those that `lay` ensures.
-use mathlib.Core.Path.{_≡_, refl, sym, _∙_}
+use mathlib.Core.Path.{_≡_, sym, _∙_}
 use mathlib.Core.Bool.{true}
 use Prim.Native.Nat.{_-_, _≤_}
 use native.Mathlib.Omega.{arith}

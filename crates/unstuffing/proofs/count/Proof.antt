@@ -7,7 +7,7 @@ use Prim.Native.Nat.{ℕ, _+_, _-_, _≤_}
 use native.Mathlib.Omega.{arith}
 use lib.ListN.{length, drop, getD, drop-of-length-le}
 use Rattle.error.specs.Refusal.{Told, yes, no, onYes}
-use Rattle.unstuffing.specs.Proper.{widthOf, toldU8}
+use Rattle.unstuffing.specs.Private.{widthOf, toldU8}
 use Rattle.unstuffing.specs.Unstuff.{after, unstuff}
 use Rattle.unstuffing.proofs.Unstuffing.{width-most, unstuff-at}
 use Rattle.unstuffing.proofs.count.Statement.{statement}

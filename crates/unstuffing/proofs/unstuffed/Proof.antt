@@ -2,11 +2,11 @@
 -- Where the survey found a fault, or the string is too long for it, `count` answers.
 use borrow.Author.Needs.{needs}
 use mathlib.Core.Path.{_≡_, sym, ap, _∙_}
-use Prim.Native.Nat.{_+_, _-_}
+use Prim.Native.Nat.{_+_}
 use native.Mathlib.Omega.{arith}
 use lib.ListN.{length}
 use Rattle.error.specs.Refusal.{Told, yes, onYes}
-use Rattle.unstuffing.specs.Proper.{Proper, kept}
+use Rattle.unstuffing.specs.Private.{Proper, kept}
 use Rattle.unstuffing.proofs.Proper.{unstuff-proper, length-units, kept-most}
 use Rattle.unstuffing.proofs.unstuffed.Statement.{statement}
 use Rattle.unstuffing.proofs.unstuffed.Tie as tie

@@ -1,7 +1,7 @@
 -- `offer` is safe and ends: the hold keeps its length; the measure is the turns left.
 -- The turns are counted, so that it ends whatever each call takes.
 use Prim.Native.Nat.{_-_}
-use mathlib.Core.Path.{_≡_, refl, _∙_}
+use mathlib.Core.Path.{_≡_, refl}
 use lib.ListN.{length}
 use native.Mathlib.Omega.{arith}
 use Rattle.cases.proofs.frames.offer.Statement.{statement}

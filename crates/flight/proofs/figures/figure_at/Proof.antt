@@ -5,7 +5,7 @@ use mathlib.Core.Path.{_∙_, ap}
 use lib.ListN.{getD}
 use mir.Syntax.{w32}
 use Rattle.layout.proofs.Held.{held}
-use Rattle.flight.specs.ByList.{divided}
+use Rattle.flight.specs.Private.{divided}
 use Rattle.flight.proofs.figures.figure_at.Statement.{statement}
 use Rattle.flight.proofs.figures.figure_at.Tie as tie
 

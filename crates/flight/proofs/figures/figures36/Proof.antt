@@ -12,7 +12,7 @@ use Rattle.integer.specs.Fields.{intAt}
 use Rattle.layout.specs.Layout.{row}
 use Rattle.layout.proofs.Held.{held}
 use Rattle.layout.proofs.Parts.{int-part}
-use Rattle.flight.specs.ByList.{divided}
+use Rattle.flight.specs.Private.{divided}
 use Rattle.flight.proofs.Row.{Filled, ending, filled-none, filled-more, filled-is}
 use Rattle.flight.proofs.figures.figures36.Statement.{statement}
 use Rattle.flight.proofs.figures.figures36.Tie as tie

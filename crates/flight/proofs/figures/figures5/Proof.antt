@@ -5,7 +5,7 @@ use mathlib.Core.Path.{_≡_, _∙_, ap}
 use mathlib.Core.List.{[], _∷_}
 use Prim.Native.Nat.{_+_, _-_}
 use native.Mathlib.Omega.{arith}
-use Rattle.flight.specs.ByList.{figureIn}
+use Rattle.flight.specs.Private.{figureIn}
 use Rattle.flight.proofs.Decided.{figure-part}
 use Rattle.flight.proofs.figures.figures5.Statement.{statement}
 use Rattle.flight.proofs.figures.figures5.Tie as tie

@@ -12,7 +12,7 @@ use Rattle.error.specs.Refusal.{yes, no, onYes, filled, numberOf, valuesOf}
 use Rattle.checking.specs.declared.Head.{Head}
 use Rattle.checking.specs.Rule.{toldHead}
 use Rattle.frame.specs.Rule.{checkRule, parseRule, rawFrame, headerOf}
-use Rattle.frame.specs.Walk.{raw}
+use Rattle.frame.specs.Private.{raw}
 use Rattle.frame.proofs.Cases.{parse-refused, parse-room, parse-fits}
 use Rattle.frame.proofs.Parsed.{Held, held, head-no, partOf}
 use Rattle.frame.proofs.RawFrame.parse.Statement.{statement}

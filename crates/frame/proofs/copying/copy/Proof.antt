@@ -7,8 +7,8 @@ use Prim.Native.Nat.{ℕ, _+_, _-_, _≤_}
 use native.Mathlib.Omega.{arith}
 use lib.ListN.{length, take, drop, getD, length-drop}
 use lib.Seq.{length-take-le, take-all, drop-drop}
-use Rattle.unstuffing.specs.Proper.{kept}
-use Rattle.frame.specs.Walk.{raw, slots}
+use Rattle.unstuffing.specs.Private.{kept}
+use Rattle.frame.specs.Private.{raw, slots}
 use Rattle.frame.proofs.Walking.{length-raw, slots-take, slots-part, raw-part, take-whole}
 use Rattle.frame.proofs.copying.copy.Statement.{statement}
 use Rattle.frame.proofs.copying.copy.Tie as tie

@@ -11,7 +11,7 @@ use lib.Bits.{bitOr}
 use lib.Dec.{eqb}
 use lib.ListN.{length, drop, getD, drop-of-length-le}
 use lib.Seq.{drop-cons}
-use Rattle.unstuffing.specs.Proper.{kept}
+use Rattle.unstuffing.specs.Private.{kept}
 use Rattle.unstuffing.proofs.Proper.{both-zero, kept-flag}
 use Rattle.frame.proofs.copying.escapes.Statement.{statement}
 use Rattle.frame.proofs.copying.escapes.Tie as tie

@@ -10,8 +10,8 @@ use native.Mathlib.Omega.{arith}
 use lib.Dec.{eqb}
 use lib.ListN.{length, take, drop, getD, length-set, drop-of-length-le}
 use lib.Seq.{drop-cons}
-use Rattle.unstuffing.specs.Proper.{kept}
-use Rattle.frame.specs.Walk.{standsFor, raw, slots}
+use Rattle.unstuffing.specs.Private.{kept}
+use Rattle.frame.specs.Private.{standsFor, raw, slots}
 use Rattle.frame.proofs.Walking.{slots-step, walk-on}
 use Rattle.frame.proofs.copying.walk.Statement.{statement}
 use Rattle.frame.proofs.copying.walk.Tie as tie

@@ -7,7 +7,7 @@ use Prim.Native.Nat.{_+_, _≤_}
 use native.Mathlib.Omega.{arith}
 use lib.ListN.{length, replicate}
 use lib.Seq.{take-at}
-use Rattle.unstuffing.specs.Proper.{kept}
+use Rattle.unstuffing.specs.Private.{kept}
 use Rattle.unstuffing.proofs.Proper.{both-zero}
 use Rattle.frame.proofs.Walking.{kept-slots, block-walked}
 use Rattle.frame.proofs.copying.walk_sixteen.Statement.{statement}

@@ -10,7 +10,7 @@ use Rattle.frame.specs.declared.ResultRawFrame.{ResultRawFrame}
 use Rattle.frame.specs.Rule.{toldRawFrame}
 use Rattle.report.specs.Text.{decimalOf}
 use Rattle.report.specs.Line.{spaced, resultWords}
-use Rattle.report.specs.Put.{Put}
+use Rattle.report.specs.Private.{Put}
 use Rattle.report.proofs.Stores.{put-then, put-length}
 use Rattle.report.proofs.Values.{valuesText}
 use Rattle.report.proofs.Lines.{ok-width, no-width}

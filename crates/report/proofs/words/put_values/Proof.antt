@@ -8,7 +8,7 @@ use lib.ListN.{length, take, getD}
 use lib.Seq.{take-all}
 use Rattle.error.specs.Refusal.{valuesOf}
 use Rattle.report.specs.Text.{decimalOf}
-use Rattle.report.specs.Put.{Put}
+use Rattle.report.specs.Private.{Put}
 use Rattle.report.proofs.Stores.{put-then, put-length}
 use Rattle.report.proofs.Values.{valuesText, one-more, room-for}
 use Rattle.report.proofs.words.put_values.Statement.{statement}
