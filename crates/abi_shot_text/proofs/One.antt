@@ -1,9 +1,10 @@
 -- Two replies that a call of `abi_shot_text` may give for one input are equal, and so is the buffer at exit, by the contract as the
 -- check reads it off src/ (`Post`).
-use mathlib.Core.Path.{_≡_, refl}
-use mathlib.Core.Bool.{true, false}
+use mathlib.Core.Path.{_≡_, sym, ap, _∙_}
 use Prim.Native.Nat.{ℕ}
 use Rattle.general.proofs.One.{plain}
+use Rattle.shot_text.proofs.One.{one-answer}
+use Rattle.abi.specs.Answer.{flagOf}
 use Rattle.abi_shot_text.specs.Text.{Flags}
 use Rattle.abi_shot_text.proofs.mvd_shot_text.Reads as shot-text
 use Rattle.abi_shot_text.proofs.mvd_is_processed.Reads as is-processed
@@ -15,10 +16,7 @@ one-shot-text κs a r s x y p q = (plain (p .0) (q .0), plain (p .1) (q .1))
 
 -- two flags of one question
 one-flag : {P : Type 0} {r s : ℕ} → Flags P r → Flags P s → r ≡ s
-one-flag (true, e, p) (true, f, q) = plain e f
-one-flag (true, e, p) (false, f, q) = absurd (q .no refl (p .yes refl))
-one-flag (false, e, p) (true, f, q) = absurd (p .no refl (q .yes refl))
-one-flag (false, e, p) (false, f, q) = plain e f
+one-flag (b, e, p) (c, f, q) = e ∙ ap flagOf (one-answer p q) ∙ sym f
 
 pub one-is-processed : (κs a r s x y : _) → is-processed.Post κs a r x → is-processed.Post κs a s y → r ≡ s
 one-is-processed κs a r s x y = one-flag

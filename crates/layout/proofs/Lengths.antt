@@ -1,15 +1,12 @@
 -- A message on either side of its least length, whatever its table is: the answer, and the record beside it.
--- The two decide what is decoded.
+-- Too short is refused with the table of zeros; else the table is read from the least length's bytes.
 use Prim.Native.Nat.{ℕ, _≤_, _<_}
-use mathlib.Core.Path.{_≡_, sym, _∙_}
+use mathlib.Core.Path.{_≡_}
 use mathlib.Core.List.{List}
 use lib.ListN.{length, take}
 use borrow.Author.Tests.{lt-ltb, le-ltb}
 use Rattle.error.specs.Refusal.{yes, refused}
-use Rattle.error.specs.Result.{toldUnit}
 use Rattle.error.specs.declared.WireError.the-variants.{PayloadTooShort}
-use Rattle.error.specs.declared.ResultUnit.{ResultUnit}
-use Rattle.error.proofs.Decides.{one-unit}
 use Rattle.layout.specs.Layout.{Source, answered, sourceOf, fieldsOf, zeros}
 
 module _ {R : Type 0} (table : Source → R) (kind least : ℕ) (p : List ℕ) where
@@ -22,9 +19,3 @@ module _ {R : Type 0} (table : Source → R) (kind least : ℕ) (p : List ℕ) w
       → (yes tt ≡ answered kind least p) × (r ≡ table (sourceOf least p))
   unfolding answered sourceOf
   whole h e = (rw (le-ltb (length p) least h), rw (le-ltb (length p) least h) e)
-
-  pub one-decoded : {a b : ResultUnit} {r s : R}
-      → (toldUnit a ≡ answered kind least p) × (r ≡ table (sourceOf least p))
-      → (toldUnit b ≡ answered kind least p) × (s ≡ table (sourceOf least p))
-      → (a ≡ b) × (r ≡ s)
-  one-decoded (p, e) (q, f) = (one-unit p q, e ∙ sym f)

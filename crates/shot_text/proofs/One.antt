@@ -9,7 +9,8 @@ use Rattle.shot_text.proofs.ShotText.is_processed.Reads as is-processed
 use Rattle.shot_text.proofs.ShotText.is_idle.Reads as is-idle
 use Rattle.shot_text.proofs.ShotText.is_trigger.Reads as is-trigger
 
-one-answer : {P : Type 0} {r s : Bool} → Says P r → Says P s → r ≡ s
+-- two answers to one question
+pub one-answer : {P : Type 0} {r s : Bool} → Says P r → Says P s → r ≡ s
 one-answer {r = true} {s = true} a b = refl
 one-answer {r = true} {s = false} a b = absurd (b .no refl (a .yes refl))
 one-answer {r = false} {s = true} a b = absurd (a .no refl (b .yes refl))
