@@ -2,12 +2,12 @@
 -- Each is a plain equation; that of `tally` is one for each of its two fields.
 use mathlib.Core.Path.{_≡_}
 use Rattle.general.proofs.One.{plain}
-use Rattle.stuffing.proofs.select.Reads as select
-use Rattle.stuffing.proofs.escape_code.Reads as escape-code
-use Rattle.stuffing.proofs.unescape.Reads as unescape
-use Rattle.stuffing.proofs.wide.Reads as wide
-use Rattle.stuffing.proofs.checksum.Reads as checksum
-use Rattle.stuffing.proofs.tally.Reads as tally
+use Rattle.stuffing.proofs.coding.select.Reads as select
+use Rattle.stuffing.proofs.coding.escape_code.Reads as escape-code
+use Rattle.stuffing.proofs.coding.unescape.Reads as unescape
+use Rattle.stuffing.proofs.summing.wide.Reads as wide
+use Rattle.stuffing.proofs.summing.checksum.Reads as checksum
+use Rattle.stuffing.proofs.summing.tally.Reads as tally
 
 pub one-select : (κs a r s x y : _) → select.Post κs a r x → select.Post κs a s y → r ≡ s
 one-select κs a r s x y = plain

@@ -3,8 +3,8 @@
 use mathlib.Core.Path.{sym, ap}
 use borrow.Author.Tests.{ne-eqb}
 use Rattle.stuffing.specs.Stuff.{unescapeOf}
-use Rattle.stuffing.proofs.unescape.Statement.{statement}
-use Rattle.stuffing.proofs.unescape.Tie as tie
+use Rattle.stuffing.proofs.coding.unescape.Statement.{statement}
+use Rattle.stuffing.proofs.coding.unescape.Tie as tie
 
 returns : tie.Need-returns
 unfolding unescapeOf

@@ -11,8 +11,8 @@ use lib.ListN.{length, drop, getD, length-append, length-drop, drop-of-length-le
 use Rattle.stuffing.specs.Stuff.{escapeOf, stuffByte, stuff, total, sum16}
 use Rattle.stuffing.proofs.Stuffing.{stuff-at, stuff-least}
 use Rattle.stuffing.proofs.Sums.{total-append, running, more-of, sum-of}
-use Rattle.stuffing.proofs.tally.Statement.{statement}
-use Rattle.stuffing.proofs.tally.Tie as tie
+use Rattle.stuffing.proofs.summing.tally.Statement.{statement}
+use Rattle.stuffing.proofs.summing.tally.Tie as tie
 
 abbrev Inv-loop : tie.InvT-loop
 Inv-loop s more₀ sum₀ i₀ more sum i =

@@ -2,8 +2,8 @@
 -- No case is left over: a byte outside the table selects 0.
 use borrow.Author.Needs.{needs}
 use Rattle.stuffing.specs.Stuff.{escapeOf}
-use Rattle.stuffing.proofs.escape_code.Statement.{statement}
-use Rattle.stuffing.proofs.escape_code.Tie as tie
+use Rattle.stuffing.proofs.coding.escape_code.Statement.{statement}
+use Rattle.stuffing.proofs.coding.escape_code.Tie as tie
 
 select-requires : tie.Need-select-requires
 select-requires c κs = search needs

@@ -7,8 +7,8 @@ use native.Mathlib.Omega.{arith}
 use lib.ListN.{length, drop, drop-of-length-le}
 use Rattle.stuffing.specs.Stuff.{total, sum16}
 use Rattle.stuffing.proofs.Sums.{total-at}
-use Rattle.stuffing.proofs.checksum.Statement.{statement}
-use Rattle.stuffing.proofs.checksum.Tie as tie
+use Rattle.stuffing.proofs.summing.checksum.Statement.{statement}
+use Rattle.stuffing.proofs.summing.checksum.Tie as tie
 
 abbrev Inv-loop : tie.InvT-loop
 Inv-loop s sum₀ i₀ sum i =

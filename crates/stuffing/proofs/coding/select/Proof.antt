@@ -1,8 +1,8 @@
 -- `select` meets its contract: each arm is the test's case.
 -- One test of two bytes, two arms.
 use borrow.Author.Tests.{eq-eqb, ne-eqb}
-use Rattle.stuffing.proofs.select.Statement.{statement}
-use Rattle.stuffing.proofs.select.Tie as tie
+use Rattle.stuffing.proofs.coding.select.Statement.{statement}
+use Rattle.stuffing.proofs.coding.select.Tie as tie
 
 returns : tie.Need-returns
 returns c = simp (eq-eqb _ _ (c .if1 .taken))
