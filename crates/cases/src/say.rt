@@ -14,7 +14,7 @@ pub(crate) fn whole(n: u64) {
 }
 
 pub(crate) fn signed(n: i32) {
-    let bits = bits_of(n);
+    let bits = integer_write::bits_of(n);
     if n < 0 {
         io::write_all(STDOUT_FILENO, b" -");
         io::print_decimal(STDOUT_FILENO, std::num::wrapping_sub_u32(0, bits) as u64);
@@ -123,11 +123,4 @@ fn values_of(k: u64) -> usize {
         0 | 3 | 9 => 0,
         _ => 1,
     }
-}
-
-// The 32 bits of a number, as INT32 puts them: a cast would ask that it is not negative.
-fn bits_of(n: i32) -> u32 {
-    let mut word = [0u8; 4];
-    integer_write::write_int32(&mut word, 0, n);
-    integer::uint32_at(&word, 0)
 }

@@ -54,7 +54,7 @@ pub fn write_uint32(buf: &mut [u8], offset: usize, val: u32) -> ResultUnit
 }
 
 // The 32 bits of val: the Rust's `as u32`.
-fn bits_of(val: i32) -> u32
+pub fn bits_of(val: i32) -> u32
     ensures { λ r. ⌜ r ≡ unsigned 32 val ⌝ }
 {
     ((val as i64 + 4294967296) as u64 % 4294967296) as u32
