@@ -1,7 +1,7 @@
 /* Movaleduft for C and Rust: the exported library, the crates abi_*; each is an archive of its own, libNAME.a.
  *
  * A slice is a pointer and a length; no pointer is null, and no two lent places of a call overlap.
- * A call that may refuse answers 0, or the refusal's number (1 to 11) with its values in `values`, 0 where it has fewer
+ * A call that may refuse answers 0, or the refusal's number (1 to 12) with its values in `values`, 0 where it has fewer
  * than three. A refusal alters no other lent place, and a call that is not refused keeps `values`.
  */
 #ifndef MOVALEDUFT_H

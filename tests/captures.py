@@ -54,7 +54,8 @@ def noisy():
         b"\x00\xFF\xF1\x13", wire,
         wire[:40] + b"\x00" + wire[41:],                     # a byte lost its bits: the checksum tells
         b"\xF0\x40\x10\x01\xFD\x09\x51\xF1",                 # FD 09 is no escape
-        b"\xF0\x40\x10\x01\x00\xFD\xF1",                     # an FD with nothing behind it
+        b"\xF0\x40\x10\x01\xFD\x00\x51\xF1",                 # nor is FD 00: a confused sender
+        b"\xF0\x40\x10\x01\x00\xFD\xF1",                     # an FD with nothing behind it: a cut cable
         encode(0x22, DSP, 0x01), encode(APP, 0x99, 0x01),    # no such DEST, no such SRC
         b"\xF0\x40\x10\xF1", b"\xF0\xFD\x01\x40\x10\x01\xF1",    # too short, raw and unstuffed
         b"\xF0" + bytes(2100) + b"\xF1",                     # longer than the hold buffer

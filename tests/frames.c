@@ -2,7 +2,7 @@
 #include <stdio.h>
 #include "movaleduft.h"
 
-static const int VALUES[12] = {0, 1, 1, 0, 2, 2, 1, 3, 2, 0, 1, 1};
+static const int VALUES[13] = {0, 1, 1, 0, 2, 2, 1, 3, 2, 0, 1, 1, 1};
 
 static void frame(unsigned long long number, const uint8_t *wire, size_t len) {
     uint8_t payload[2048];

@@ -1,5 +1,5 @@
 #!/usr/bin/env python3
-"""What `frames` prints, written from document 01 alone.  usage: tests/model.py < CAPTURE"""
+"""What `frames` prints, written from document 01 and the later requests alone.  usage: tests/model.py < CAPTURE"""
 import sys
 
 HOLD = ROOM = 2048
@@ -38,7 +38,9 @@ def unstuff(inner):
             units.append((inner[i], i))
             i += 1
             continue
-        code = inner[i + 1] if i + 1 < len(inner) else 0
+        if i + 1 == len(inner):
+            return None, (12, i)
+        code = inner[i + 1]
         if code not in CODES:
             return None, (4, code, i)
         units.append((CODES[code], i))

@@ -365,33 +365,49 @@ pub fn bounded(r: &mut Random, mut take: impl FnMut(Case)) {
     }
     // every wire of up to eight bytes over the bytes that matter, between the markers
     let bytes = [0x40, 0x10, 0x00, 0x01, 0x50, 0x51, 0xF0, 0xF1, 0xFA, 0xFD];
-    for n in 0..=5 {
-        for mut k in 0..bytes.len().pow(n) {
-            let mut wire = vec![0xF0];
-            for _ in 0..n {
-                wire.push(bytes[k % bytes.len()]);
-                k /= bytes.len();
-            }
-            wire.push(0xF1);
-            take(case(ops::PARSE, 2, 0, wire));
-        }
+    for inner in strings(&bytes, 5) {
+        take(case(ops::PARSE, 2, 0, [&[0xF0][..], &inner, &[0xF1]].concat()));
     }
     // every stream of up to six bytes over four, for H from 0 to 4, whole and byte by byte
     let bytes = [0x00, 0xF0, 0xF1, 0xFD];
-    for n in 0..=6 {
-        for k in 0..bytes.len().pow(n) {
-            let stream: Vec<u8> = (0..n).map(|i| bytes[k / bytes.len().pow(i) % bytes.len()]).collect();
-            for room in 0..=4 {
-                for cuts in [0, 0x0101_0101_0101_0101, 0x0200_0103_0002_0100] {
-                    take(case(ops::SPLIT, room, cuts, stream.clone()));
-                }
+    for stream in strings(&bytes, 6) {
+        for room in 0..=4 {
+            for cuts in [0, 0x0101_0101_0101_0101, 0x0200_0103_0002_0100] {
+                take(case(ops::SPLIT, room, cuts, stream.clone()));
             }
         }
     }
 }
 
-/// Short inputs, all of them: every INT24 read and written, every wire and every text of up to two bytes, every count, mark
-/// and H up to eight.
+/// Every string of up to so many of some bytes, the shorter ones first.
+fn strings(bytes: &[u8], most: u32) -> impl Iterator<Item = Vec<u8>> + '_ {
+    let string = |n, k| (0..n).map(|i| bytes[k / bytes.len().pow(i) % bytes.len()]).collect();
+    (0..=most).flat_map(move |n| (0..bytes.len().pow(n)).map(move |k| string(n, k)))
+}
+
+/// What an interior ends in where its last escape may be wrong: cut off, behind another, behind a sound one; FD 00, and a cut behind it.
+pub const ENDINGS: [&[u8]; 5] = [&[0xFD], &[0xFD, 0xFD], &[0xFD, 0x03, 0xFD], &[0xFD, 0x00], &[0xFD, 0x00, 0xFD]];
+
+/// Every such ending behind every two bytes, with a header before them or none, and behind up to five of the bytes that matter.
+fn endings(mut take: impl FnMut(Case)) {
+    let mut wires = |front: &[u8]| {
+        for ending in ENDINGS {
+            take(case(ops::PARSE, 2, 0, [&[0xF0], front, ending, &[0xF1]].concat()));
+        }
+    };
+    for n in 0..=u16::MAX {
+        let [a, b] = n.to_be_bytes();
+        wires(&[a, b]);
+        wires(&[0x40, 0x10, 0x01, a, b]);
+    }
+    let bytes = [0x40, 0x10, 0x00, 0x01, 0x03, 0x05, 0xF0, 0xF1, 0xFA, 0xFD];
+    for front in strings(&bytes, 5) {
+        wires(&front);
+    }
+}
+
+/// Short inputs, all of them: every INT24 read and written, every wire and every text of up to two bytes, short interiors by
+/// how they end, every count, mark and H up to eight.
 pub fn exhaustive(mut take: impl FnMut(Case)) {
     for n in 0..1u32 << 24 {
         let bytes = n.to_be_bytes();
@@ -409,6 +425,7 @@ pub fn exhaustive(mut take: impl FnMut(Case)) {
             take(case(ops::SHOT_TEXT, 0, 0, bytes[..len].to_vec()));
         }
     }
+    endings(&mut take);
     for count in 0..=8 {
         for mark in 0..=255 {
             for hold in 0..=8 {

@@ -65,6 +65,8 @@ fn frames() {
     row("encode no bytes into 6", ops::ENCODE, 0x10_4001, 6, &[], || hex(&frame(Vec::new()).encode()));
     let wire = frame(vec![7, 7]).encode();
     let same = wire.clone();
+    let cut = [0xF0, 0x40, 0x10, 0x01, 0x00, 0xFD, 0xF1];
+    row("parse F0 40 10 01 00 FD F1", ops::PARSE, 0, 0, &cut, move || format!("{:?}", RawFrame::parse(&cut)));
     row("parse a payload of 2 into 1", ops::PARSE, 1, 0, &wire, move || {
         format!("{:?}", RawFrame::parse(&same).map(|f| f.payload))
     });

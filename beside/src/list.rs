@@ -1,8 +1,8 @@
-//! The fixed list: a sample of the Rust's answers that the program crate `cases` replays with no Rust at hand.
+//! The fixed list: a sample of the Rust's answers that the program crate `cases` replays with no Rust at hand, a cut escape told as the port's.
 //! Made anew it is the same, byte for byte.
 use crate::answer::Case;
 use crate::cases::{self, Random};
-use crate::{ops, rust};
+use crate::{cut, ops, rust};
 use std::fs;
 
 const SEED: u64 = 1;
@@ -12,7 +12,7 @@ fn case(op: u8, a: u64, b: u64, data: &[u8]) -> Case {
     Case { op, a, b, data: data.to_vec() }
 }
 
-/// Document 01's worked examples and its boundaries.
+/// Document 01's worked examples, interiors that end in FD or FD 00, and the boundaries.
 fn named(r: &mut Random) -> Vec<Case> {
     let wires: [&[u8]; 7] = [
         &[0xF0, 0x40, 0x10, 0x01, 0x00, 0x51, 0xF1],
@@ -24,6 +24,9 @@ fn named(r: &mut Random) -> Vec<Case> {
         &[0xF0, 0xFD, 0x01, 0x40, 0x10, 0x01, 0xF1],
     ];
     let mut list: Vec<Case> = wires.iter().map(|w| case(ops::PARSE, 4, 0, w)).collect();
+    for front in [&[0xF0, 0x40, 0x10][..], &[0xF0, 0x40, 0x10, 0x01, 0x00, 0x51]] {
+        list.extend(cases::ENDINGS.map(|ending| case(ops::PARSE, 4, 0, &[front, ending, &[0xF1]].concat())));
+    }
     for payload in [&[][..], &[0xF0], &[0x9F], &[0xFA], &[0xFF; 257]] {
         list.push(case(ops::ENCODE, 0x40_1001, 300, payload));
     }
@@ -134,6 +137,6 @@ pub fn write(dir: &str) {
     }
     let text = |f: &dyn Fn(&Case) -> String| list.iter().map(|c| f(c) + "\n").collect::<String>();
     fs::write(format!("{dir}/stdin"), text(&|c| c.line())).expect("the folder can be written");
-    fs::write(format!("{dir}/stdout"), text(&|c| rust::ask(c).line())).expect("the folder can be written");
+    fs::write(format!("{dir}/stdout"), text(&|c| cut::as_port(c, rust::ask(c)).line())).expect("the folder can be written");
     println!("{} cases", list.len());
 }

@@ -8,6 +8,7 @@
 mod answer;
 mod bench;
 mod cases;
+mod cut;
 mod differences;
 mod list;
 mod ops;
@@ -21,11 +22,13 @@ use std::process::exit;
 const SEED: u64 = 2026;
 const CASES: u64 = 10_000_000;
 
-/// Both sides' answers to a case; the first that differs ends the run.
+/// Both sides' answers to a case, the port's read as the Rust's and its cut escapes held to the bytes; the first that differs
+/// ends the run.
 fn compare(c: &Case) {
     let (rust, port) = (rust::ask(c), port::ask(c));
-    if rust != port {
-        println!("DIFFERS\n  case  {}\n  rust  {}\n  port  {}", c.line(), rust.line(), port.line());
+    if cut::told(&port) != cut::found(c) || cut::as_rust(port.clone()) != rust {
+        let want = cut::as_port(c, rust.clone());
+        println!("DIFFERS\n  case  {}\n  rust  {}\n  want  {}\n  port  {}", c.line(), rust.line(), want.line(), port.line());
         exit(1);
     }
 }

@@ -55,7 +55,7 @@ pub mod c {
 }
 
 /// How many values each refusal has.
-const VALUES: [usize; 12] = [0, 1, 1, 0, 2, 2, 1, 3, 2, 0, 1, 1];
+const VALUES: [usize; 13] = [0, 1, 1, 0, 2, 2, 1, 3, 2, 0, 1, 1, 1];
 
 /// No call may touch a value that it does not answer.
 const MARK: u64 = 0x5555_5555_5555_5555;

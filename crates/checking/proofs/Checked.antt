@@ -1,7 +1,7 @@
 -- A wire is taken exactly where it is what the rule says: F0 first, F1 last, escapes and checksum right, known addresses.
 -- `Checked` lists these conditions; `taken` and `checked` are the two directions.
 use mathlib.Core.Path.{_≡_, refl, sym, ap, _∙_}
-use mathlib.Core.Bool.{Bool, true, false, cond, not}
+use mathlib.Core.Bool.{Bool, true, false, not}
 use mathlib.Core.List.{List, [], _∷_}
 use Prim.Native.Nat.{ℕ, _-_, _≤_}
 use native.Mathlib.Omega.{arith}
@@ -9,17 +9,17 @@ use lib.Dec.{eqb, ltb}
 use lib.ListN.{length, getD}
 use borrow.Author.Tests.{ltb-false, eqb-true}
 use Rattle.error.specs.Refusal.{Told, yes, no, andThen}
+use Rattle.error.proofs.Tells.{test-passed}
 use Rattle.addr.specs.declared.BusAddr.{BusAddr}
 use Rattle.addr.specs.Address.{addressRule}
 use Rattle.unstuffing.specs.Unstuff.{unstuff, byteAt}
 use Rattle.encoding.specs.Wire.{Fields, fields}
 use Rattle.checking.specs.Rule.{interior, receivedOf, computedOf, payloadOf, addressesRule, sumRule, unitsRule, checkRule}
+use Rattle.checking.specs.Wrong.{Enclosed}
 use Rattle.checking.proofs.Cases.{framed, many, matching, both-known}
 
 pub record Checked (w : List ℕ) (f : Fields) : Type 0 where
-  pub long : 7 ≤ length w
-  pub first : getD w 0 0 ≡ 0xF0
-  pub last : getD w (length w - 1) 0 ≡ 0xF1
+  pub enclosed : Enclosed w
   pub us : List (ℕ × ℕ)
   pub escapes : unstuff 0 (interior w) ≡ yes us
   pub five : 5 ≤ length us
@@ -30,7 +30,7 @@ pub record Checked (w : List ℕ) (f : Fields) : Type 0 where
 
 pub taken : {w : List ℕ} {f : Fields} → Checked w f → checkRule w ≡ yes f
 taken {w} {f} c =
-    framed w (c .long) (c .first) (c .last)
+    framed w (c .enclosed .long) (c .enclosed .first) (c .enclosed .last)
     ∙ ap (λ (t : Told (List (ℕ × ℕ))). andThen t (unitsRule (length w) (interior w))) (c .escapes)
     ∙ many (c .us) (interior w) (length w) (c .five)
     ∙ matching (c .us) (interior w) (c .sum)
@@ -39,13 +39,17 @@ taken {w} {f} c =
 
 -- ---- and nothing else
 
-pub passed : {A : Type 0} (t : Bool) (k : ℕ) (vs : List ℕ) (y : Told A) (a : A) → cond t (no k vs) y ≡ yes a → (t ≡ false) × (y ≡ yes a)
-passed true k vs y a e = let z : _≡_ {A = ℕ} 0 1 = cc in absurd (let q : ⊥ = omega arith in q)
-passed false k vs y a e = (refl, e)
-
 holds : (t : Bool) → not t ≡ false → t ≡ true
 holds true e = refl
 holds false e = sym e
+
+pub enclosed : (w : List ℕ) → ltb (length w) 7 ≡ false → not (eqb (getD w 0 0) 0xF0) ≡ false → not (eqb (getD w (length w - 1) 0) 0xF1) ≡ false → Enclosed w
+enclosed w a b c =
+    record {
+      long = ltb-false (length w) 7 a;
+      first = eqb-true (getD w 0 0) 0xF0 (holds _ b);
+      last = eqb-true (getD w (length w - 1) 0) 0xF1 (holds _ c);
+    }
 
 pub record Got {A B : Type 0} (t : Told A) (rule : A → Told B) (b : B) : Type 0 where
   pub value : A
@@ -84,18 +88,16 @@ heads us f e =
 pub checked : (w : List ℕ) (f : Fields) → checkRule w ≡ yes f → Checked w f
 unfolding checkRule unitsRule sumRule
 checked w f e =
-    let a = passed (ltb (length w) 7) 1 (length w ∷ []) _ f e in
-    let b = passed (not (eqb (getD w 0 0) 0xF0)) 2 (getD w 0 0 ∷ []) _ f (a .1) in
-    let c = passed (not (eqb (getD w (length w - 1) 0) 0xF1)) 3 [] _ f (b .1) in
+    let a = test-passed (ltb (length w) 7) 1 (length w ∷ []) _ (yes f) refl e in
+    let b = test-passed (not (eqb (getD w 0 0) 0xF0)) 2 (getD w 0 0 ∷ []) _ (yes f) refl (a .1) in
+    let c = test-passed (not (eqb (getD w (length w - 1) 0) 0xF1)) 3 [] _ (yes f) refl (b .1) in
     let d = got (unstuff 0 (interior w)) (unitsRule (length w) (interior w)) f (c .1) in
     let us = d .value in
-    let g = passed (ltb (length us) 5) 1 (length w ∷ []) _ f (d .then) in
-    let h = passed (not (eqb (receivedOf us) (computedOf (interior w) us))) 5 (receivedOf us ∷ computedOf (interior w) us ∷ []) (addressesRule us) f (g .1) in
+    let g = test-passed (ltb (length us) 5) 1 (length w ∷ []) _ (yes f) refl (d .then) in
+    let h = test-passed (not (eqb (receivedOf us) (computedOf (interior w) us))) 5 (receivedOf us ∷ computedOf (interior w) us ∷ []) (addressesRule us) (yes f) refl (g .1) in
     let k = heads us f (h .1) in
     record {
-      long = ltb-false (length w) 7 (a .0);
-      first = eqb-true (getD w 0 0) 0xF0 (holds _ (b .0));
-      last = eqb-true (getD w (length w - 1) 0) 0xF1 (holds _ (c .0));
+      enclosed = enclosed w (a .0) (b .0) (c .0);
       us = us;
       escapes = d .is;
       five = ltb-false (length us) 5 (g .0);

@@ -4,4 +4,6 @@ pub mod Cases
 pub mod Reading
 pub mod Checked
 pub mod Located
+pub mod Rust
+pub mod Wrong
 pub mod One

@@ -10,7 +10,7 @@ use lib.Seq.{take-nil, drop-drop, take-take, getD-drop, length-take-le}
 use Rattle.error.specs.Refusal.{Told, yes, onYes}
 use Rattle.stuffing.specs.Stuff.{unescapeOf}
 use Rattle.unstuffing.specs.Unstuff.{unstuff, offsetAt, unitBytes}
-use Rattle.unstuffing.specs.Private.{Proper, none, byte, escape}
+use Rattle.unstuffing.specs.Escapes.{Proper, none, byte, escape}
 use Rattle.unstuffing.proofs.Proper.{units, unstuff-proper, proper-of}
 use Rattle.encoding.specs.Wire.{Fields}
 use Rattle.checking.specs.Rule.{interior, payloadOf, unitsOf, headOf}
@@ -153,7 +153,7 @@ module _ (w : List ℕ) (f : Fields) (c : Checked w f) where
   located =
       record {
         ordered = omega (arith, from-is, to-is);
-        inside = omega (arith, to-is, ends, c .long);
+        inside = omega (arith, to-is, ends, c .enclosed .long);
         proper = rw part-is (b .left);
         bytes = rw part-is (ap (onYes unitBytes) (unstuff-proper 0 (b .left)) ∙ ap yes bytes-are);
       }

@@ -14,7 +14,8 @@ use Rattle.addr.specs.declared.BusAddr.{BusAddr}
 use Rattle.addr.specs.Address.{addressRule}
 use Rattle.stuffing.specs.Stuff.{unescapeOf, sum16}
 use Rattle.unstuffing.specs.Unstuff.{after, unstuff, byteAt, offsetAt, unitBytes}
-use Rattle.unstuffing.specs.Private.{Proper, none, byte, escape, kept, widthOf, valueOf}
+use Rattle.unstuffing.specs.Escapes.{Proper, none, byte, escape}
+use Rattle.unstuffing.specs.Private.{kept, widthOf, valueOf}
 use Rattle.unstuffing.proofs.Proper.{units, unstuff-proper, isYes, proper-of, length-units, kept-most}
 use Rattle.unstuffing.proofs.Parting.{proper-append, kept-append, kept-none, unstuff-join, value-plain, FrontAt, front-at, cutOf, Back, back}
 use Rattle.encoding.specs.Wire.{Fields, fields}
@@ -244,7 +245,8 @@ module _ (s : List ℕ) (at : ℕ) (e : Ends s at) where
   pub units-are : unstuff 0 s ≡ yes (body-units ++ ((valueOf (drop at s), at) ∷ (valueOf (drop low s), low) ∷ []))
   units-are =
       ap (unstuff 0) (sym (take-append-drop at s))
-      ∙ unstuff-join 0 (e .body) (drop at s) (ap (λ (k : ℕ). unstuff k (drop at s)) (zero-add (length (take at s)) ∙ body-long) ∙ sum-units)
+      ∙ unstuff-join 0 (e .body) (drop at s)
+      ∙ ap (onYes (λ us. body-units ++ us)) (ap (λ (k : ℕ). unstuff k (drop at s)) (zero-add (length (take at s)) ∙ body-long) ∙ sum-units)
 
   pub body-kept : kept s ≡ kept (take at s) + 2
   body-kept = ap kept (sym (take-append-drop at s)) ∙ kept-append (take at s) (drop at s) ∙ ap (λ (n : ℕ). kept (take at s) + n) (e .two)
@@ -252,11 +254,7 @@ module _ (s : List ℕ) (at : ℕ) (e : Ends s at) where
   pub length-body : length body-units ≡ kept (take at s)
   length-body = length-units 0 (e .body)
 
--- ---- a count, or a refusal of unstuffing
-
-pub counted-no : (t : Told (List (ℕ × ℕ))) (k : ℕ) (vs : List ℕ) → no k vs ≡ onYes length t → t ≡ no k vs
-counted-no (yes us) k vs e = let z : _≡_ {A = ℕ} 0 1 = cc in absurd (let q : ⊥ = omega arith in q)
-counted-no (no l ws) k vs e = cc
+-- ---- an interior whose bytes were counted
 
 pub record Counted (s : List ℕ) (n : ℕ) : Type 0 where
   pub us : List (ℕ × ℕ)

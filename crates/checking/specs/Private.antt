@@ -7,7 +7,8 @@ use lib.ListN.{length, take, drop}
 use Rattle.error.specs.Refusal.{Told, yes, andThen}
 use Rattle.addr.specs.Address.{addressRule}
 use Rattle.unstuffing.specs.Unstuff.{byteAt, offsetAt}
-use Rattle.unstuffing.specs.Private.{Proper, kept}
+use Rattle.unstuffing.specs.Escapes.{Proper}
+use Rattle.unstuffing.specs.Private.{kept}
 use Rattle.checking.specs.declared.Head.{Head}
 use Rattle.checking.specs.Rule.{head}
 

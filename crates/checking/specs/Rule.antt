@@ -43,13 +43,17 @@ sumRule inner us =
 unfoldable pub unitsRule : ℕ → List ℕ → List (ℕ × ℕ) → Told Fields
 unitsRule whole inner us = cond (ltb (length us) 5) (no 1 (whole ∷ [])) (sumRule inner us)
 
--- length below 7 (1); first byte (2); last byte (3); escapes, left to right (4)
-unfoldable pub checkRule : List ℕ → Told Fields
-checkRule wire =
+-- length below 7 (1); first byte (2); last byte (3); escapes, left to right, by how an interior unstuffs
+abbrev pub checkBy : (List ℕ → Told (List (ℕ × ℕ))) → List ℕ → Told Fields
+checkBy unstuffed wire =
     cond (ltb (length wire) 7) (no 1 (length wire ∷ []))
     (cond (not (eqb (getD wire 0 0) 0xF0)) (no 2 (getD wire 0 0 ∷ []))
     (cond (not (eqb (getD wire (length wire - 1) 0) 0xF1)) (no 3 [])
-    (andThen (unstuff 0 (interior wire)) (unitsRule (length wire) (interior wire)))))
+    (andThen (unstuffed (interior wire)) (unitsRule (length wire) (interior wire)))))
+
+-- a wrong escape is 4, or 12 if it is cut off
+unfoldable pub checkRule : List ℕ → Told Fields
+checkRule wire = checkBy (unstuff 0) wire
 
 -- ---- a wire as it is answered
 

@@ -1,11 +1,11 @@
--- Document 01, 'Refusal numbers': the number and the values of each refusal, and what a call tells.
+-- Document 01, 'Refusal numbers', and those of the later requests: the number and the values of each refusal, and what a call tells.
 -- A rule of any crate speaks of `Told` alone: it knows numbers and values, and no enum.
 use Prim.Native.Nat.{ℕ}
 use mathlib.Core.List.{List, [], _∷_, _++_}
 use lib.ListN.{length, drop}
 use Rattle.error.specs.declared.WireError.{WireError}
 use Rattle.error.specs.declared.WireError.the-variants.{FrameTooShort, MissingStart, MissingEnd, InvalidEscape, ChecksumMismatch, UnknownBusAddr}
-use Rattle.error.specs.declared.WireError.the-variants.{PayloadTooShort, NoRoom, BadState, PayloadTooLong, NoField}
+use Rattle.error.specs.declared.WireError.the-variants.{PayloadTooShort, NoRoom, BadState, PayloadTooLong, NoField, CutEscape}
 
 -- a call tells a value, or a refusal's number with its values
 pub data Told (A : Type 0) : Type 0 where
@@ -24,6 +24,7 @@ numberOf (NoRoom need got) = 8
 numberOf BadState = 9
 numberOf (PayloadTooLong len) = 10
 numberOf (NoField number) = 11
+numberOf (CutEscape offset) = 12
 
 abbrev pub valuesOf : WireError → List ℕ
 valuesOf (FrameTooShort len) = len ∷ []
@@ -37,6 +38,7 @@ valuesOf (NoRoom need got) = need ∷ got ∷ []
 valuesOf BadState = []
 valuesOf (PayloadTooLong len) = len ∷ []
 valuesOf (NoField number) = number ∷ []
+valuesOf (CutEscape offset) = offset ∷ []
 
 abbrev pub refused : {A : Type 0} → WireError → Told A
 refused e = no (numberOf e) (valuesOf e)

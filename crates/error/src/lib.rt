@@ -1,4 +1,4 @@
-// Errors of the wire protocol: document 01's eleven refusals, each with its number and its values.
+// Errors of the wire protocol: document 01's eleven refusals and the later ones, each with its number and its values.
 // Every number and value is the table's; number and values together decide the refusal (proofs/Decides).
 ghost use mathlib.Core.Path.{_≡_};
 ghost use mathlib.Core.List.{_++_};
@@ -19,6 +19,7 @@ pub enum WireError {
     BadState,
     PayloadTooLong { len: usize },
     NoField { number: usize },
+    CutEscape { offset: usize },
 }
 
 // What a call answers, for each type that one answers: the Rust's `Result<T>`.
@@ -65,7 +66,7 @@ impl WireError {
         WireError::PayloadTooShort { kind, need, got }
     }
 
-    // The refusal's number, 1 to 11.
+    // The refusal's number, 1 to 12.
     pub fn number(self) -> u8
         ensures { λ r. ⌜ r ≡ numberOf self ⌝ }
     {
@@ -81,6 +82,7 @@ impl WireError {
             WireError::BadState => 9,
             WireError::PayloadTooLong { .. } => 10,
             WireError::NoField { .. } => 11,
+            WireError::CutEscape { .. } => 12,
         }
     }
 
@@ -100,6 +102,7 @@ impl WireError {
             WireError::BadState => 0,
             WireError::PayloadTooLong { .. } => 1,
             WireError::NoField { .. } => 1,
+            WireError::CutEscape { .. } => 1,
         }
     }
 
@@ -129,6 +132,7 @@ impl WireError {
             WireError::BadState => [0, 0, 0],
             WireError::PayloadTooLong { len } => [len, 0, 0],
             WireError::NoField { number } => [number, 0, 0],
+            WireError::CutEscape { offset } => [offset, 0, 0],
         }
     }
 }

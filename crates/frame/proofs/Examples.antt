@@ -9,7 +9,7 @@ use Rattle.error.specs.Refusal.{yes, no}
 use Rattle.addr.specs.declared.BusAddr.the-variants.{App, Dsp}
 use Rattle.addr.specs.Address.{addressRule}
 use Rattle.stuffing.specs.Stuff.{escapeOf, unescapeOf, stuffByte, sum16}
-use Rattle.unstuffing.specs.Unstuff.{escapeAt, stepAt}
+use Rattle.unstuffing.specs.Unstuff.{escapeBy, stepBy}
 use Rattle.encoding.proofs.Cases.{encode-fits}
 use Rattle.frame.specs.Wire.{Fields, fields, bodyOf, checksumOf, wireOf}
 use Rattle.frame.specs.Rule.{addressesRule, sumRule, unitsRule, checkRule, parseRule, encodeRule}
@@ -28,14 +28,14 @@ pub record Frames : Type 0 where
   pub c : Writes (0x9F ∷ []) (0xF0 ∷ 0x40 ∷ 0x10 ∷ 0x01 ∷ 0x9F ∷ 0x00 ∷ 0xFD ∷ 0x01 ∷ 0xF1 ∷ [])
   pub d : parseRule (0xF0 ∷ 0x40 ∷ 0x10 ∷ 0x01 ∷ 0xFA ∷ 0x01 ∷ 0x4B ∷ 0xF1 ∷ []) 1 ≡ yes (to-dsp (0xFA ∷ []))
   pub e : Writes (0xFA ∷ []) (0xF0 ∷ 0x40 ∷ 0x10 ∷ 0x01 ∷ 0xFD ∷ 0x04 ∷ 0x01 ∷ 0x52 ∷ 0xF1 ∷ [])
-  pub f : (room : ℕ) → parseRule (0xF0 ∷ 0x40 ∷ 0x10 ∷ 0x01 ∷ 0x00 ∷ 0xFD ∷ 0xF1 ∷ []) room ≡ no 4 (0x00 ∷ 4 ∷ [])
+  pub f : (room : ℕ) → parseRule (0xF0 ∷ 0x40 ∷ 0x10 ∷ 0x01 ∷ 0x00 ∷ 0xFD ∷ 0xF1 ∷ []) room ≡ no 12 (4 ∷ [])
   pub g : (room : ℕ) → parseRule (0xF0 ∷ 0xFD ∷ 0x01 ∷ 0x40 ∷ 0x10 ∷ 0x01 ∷ 0xF1 ∷ []) room ≡ no 1 (7 ∷ [])
 
 writes : (payload wire : List ℕ) → length payload ≤ 65535 → wireOf (to-dsp payload) ≡ wire → Writes payload wire
 writes payload wire h e room g = encode-fits (to-dsp payload) room h (rw e g) ∙ ap yes e
 
 pub examples-frames : Frames
-unfolding parseRule checkRule unitsRule sumRule addressesRule addressRule stepAt escapeAt unescapeOf sum16 wireOf checksumOf bodyOf stuffByte escapeOf
+unfolding parseRule checkRule unitsRule sumRule addressesRule addressRule stepBy escapeBy unescapeOf sum16 wireOf checksumOf bodyOf stuffByte escapeOf
 examples-frames =
     record {
       a = refl;

@@ -5,5 +5,6 @@ pub mod Walking
 pub mod Parsed
 pub mod Wires
 pub mod Round
+pub mod Rust
 pub mod One
 pub mod Examples

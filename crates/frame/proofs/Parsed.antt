@@ -8,12 +8,13 @@ use lib.Dec.{ltb}
 use lib.ListN.{length, take, drop, length-map}
 use borrow.Author.Tests.{ltb-false}
 use Rattle.error.specs.Refusal.{Told, yes, no, onYes}
+use Rattle.error.proofs.Tells.{test-passed}
 use Rattle.unstuffing.specs.Unstuff.{unitBytes}
 use Rattle.unstuffing.specs.Private.{kept}
 use Rattle.unstuffing.proofs.Proper.{units, unstuff-proper, length-units}
 use Rattle.checking.specs.declared.Head.{Head}
 use Rattle.checking.specs.Rule.{headOf}
-use Rattle.checking.proofs.Checked.{Checked, checked, passed, got}
+use Rattle.checking.proofs.Checked.{Checked, checked, got}
 use Rattle.checking.proofs.Located.{Located, located}
 use Rattle.frame.specs.Wire.{Fields}
 use Rattle.frame.specs.Rule.{checkRule, roomRule, parseRule}
@@ -24,15 +25,11 @@ pub parsed : (w : List ℕ) (room : ℕ) (f : Fields) → parseRule w room ≡ y
 unfolding parseRule
 parsed w room f e =
     let c = got (checkRule w) (roomRule room) f e in
-    let r = passed (ltb room (length (c .value .payload))) 8 (length (c .value .payload) ∷ room ∷ []) (yes (c .value)) f (c .then) in
+    let r = test-passed (ltb room (length (c .value .payload))) 8 (length (c .value .payload) ∷ room ∷ []) (yes (c .value)) (yes f) refl (c .then) in
     let z : c .value ≡ f = (let q = r .1 in cc) in
     (checked w f (c .is ∙ ap yes z), rw (ap (λ (q : Fields). length (q .payload)) z) at (ltb-false room (length (c .value .payload)) (r .0)))
 
 -- ---- a head that was answered, and the fields behind it
-
-pub head-no : (t : Told Fields) (w : List ℕ) (k : ℕ) (vs : List ℕ) → no k vs ≡ onYes (headOf w) t → t ≡ no k vs
-head-no (yes f) w k vs e = let z : _≡_ {A = ℕ} 0 1 = cc in absurd (let q : ⊥ = omega arith in q)
-head-no (no l ws) w k vs e = cc
 
 -- its payload's stuffed bytes
 abbrev pub partOf : List ℕ → Head → List ℕ

@@ -1,12 +1,13 @@
 -- A wire is F0, an interior that has no F0 and no F1, and F1; what encoding answers is the fields' wire.
 -- So its end is the first F1 behind its start.
-use mathlib.Core.Path.{_≡_, sym, ap, _∙_}
-use mathlib.Core.Bool.{Bool, true, false, cond}
+use mathlib.Core.Path.{_≡_, refl, sym, ap, _∙_}
+use mathlib.Core.Bool.{false, cond}
 use mathlib.Core.List.{List, [], _∷_, _++_, append-assoc}
 use Prim.Native.Nat.{ℕ, _+_, _/_, _%_}
 use lib.Dec.{ltb}
 use lib.ListN.{length}
 use Rattle.error.specs.Refusal.{Told, yes, no}
+use Rattle.error.proofs.Tells.{test-passed}
 use Rattle.addr.specs.Address.{byteOf}
 use Rattle.stuffing.specs.Stuff.{stuff}
 use Rattle.search.specs.First.{has}
@@ -37,15 +38,11 @@ pub record Framed (w : List ℕ) : Type 0 where
 pub wire-framed : (f : Fields) → Framed (wireOf f)
 wire-framed f = record { inner = stuff (text f); is = wire-is f; no-start = no-F0 (text f); no-end = no-F1 (text f) }
 
-unless : (t : Bool) (k : ℕ) (vs : List ℕ) (y : Told (List ℕ)) (w : List ℕ) → cond t (no k vs) y ≡ yes w → y ≡ yes w
-unless true k vs y w e = cc
-unless false k vs y w e = e
-
 pub written-is : (f : Fields) (room : ℕ) {w : List ℕ} → encodeRule f room ≡ yes w → w ≡ wireOf f
 unfolding encodeRule
 written-is f room {w} e =
     let n = length (wireOf f) in
     let y : Told (List ℕ) = cond (ltb room n) (no 8 (n ∷ room ∷ [])) (yes (wireOf f)) in
-    let z : yes (wireOf f) ≡ yes w =
-    unless (ltb room n) 8 (n ∷ room ∷ []) (yes (wireOf f)) w (unless (ltb 65535 (length (f .payload))) 10 (length (f .payload) ∷ []) y w e) in
+    let long = test-passed (ltb 65535 (length (f .payload))) 10 (length (f .payload) ∷ []) y (yes w) refl e in
+    let z : yes (wireOf f) ≡ yes w = test-passed (ltb room n) 8 (n ∷ room ∷ []) (yes (wireOf f)) (yes w) refl (long .1) .1 in
     cc

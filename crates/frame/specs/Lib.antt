@@ -1,5 +1,5 @@
 -- What the contracts of `frame` cite, and every crate that frames pass through.
--- A client reads Wire and Rule; Walk is for the private walks.
+-- A client reads Wire and Rule; Private is for the private walks.
 pub mod Wire
 pub mod Rule
 pub mod Private

@@ -3,4 +3,7 @@
 pub mod Unstuffing
 pub mod Proper
 pub mod Parting
+pub mod Wrong
+pub mod Rust
 pub mod One
+pub mod Examples

@@ -8,10 +8,11 @@ use native.Mathlib.Omega.{arith}
 use lib.ListN.{length, take, drop, getD, length-drop}
 use lib.Seq.{drop-drop, getD-drop}
 use borrow.Author.Tests.{eq-eqb, ne-eqb}
-use Rattle.error.specs.Refusal.{Told, yes}
+use Rattle.error.specs.Refusal.{Told, yes, no, onYes}
 use Rattle.stuffing.specs.Stuff.{unescapeOf}
-use Rattle.unstuffing.specs.Unstuff.{escapeAt, stepAt, after, unstuff}
-use Rattle.unstuffing.specs.Private.{Proper, none, byte, escape, kept, widthOf, valueOf}
+use Rattle.unstuffing.specs.Unstuff.{escapeBy, stepBy, stepAt, after, unstuff}
+use Rattle.unstuffing.specs.Escapes.{Proper, none, byte, escape}
+use Rattle.unstuffing.specs.Private.{kept, widthOf, valueOf}
 use Rattle.unstuffing.proofs.Unstuffing.{step-plain, step-escape, width-most, unstuff-at}
 use Rattle.unstuffing.proofs.Proper.{units, code-other}
 
@@ -31,16 +32,27 @@ kept-none none e = refl
 kept-none (byte {b} h p) e = absurd (let q : ⊥ = omega (arith, rw (ne-eqb b 0xFD h) at e) in q)
 kept-none (escape {b} {c} x h p) e = absurd (let q : ⊥ = omega (arith, rw (ne-eqb c 0xFD (code-other h)) at e) in q)
 
-pub unstuff-join : (i : ℕ) {a : List ℕ} (p : Proper a) (b : List ℕ) {us : List (ℕ × ℕ)} → unstuff (i + length a) b ≡ yes us
-    → unstuff i (a ++ b) ≡ yes (units i p ++ us)
+put-in-front : (i b : ℕ) (us : List (ℕ × ℕ)) (t : Told (List (ℕ × ℕ))) → after i (yes b) (onYes (λ r. us ++ r) t) ≡ onYes (λ r. (b, i) ∷ (us ++ r)) t
+put-in-front i b us (yes r) = refl
+put-in-front i b us (no k vs) = refl
+
+none-in-front : (t : Told (List (ℕ × ℕ))) → t ≡ onYes (λ r. r) t
+none-in-front (yes r) = refl
+none-in-front (no k vs) = refl
+
+-- what is told of bytes behind a proper string is told of both: a refusal as it is
+pub unstuff-join : (i : ℕ) {a : List ℕ} (p : Proper a) (b : List ℕ) → unstuff i (a ++ b) ≡ onYes (λ us. units i p ++ us) (unstuff (i + length a) b)
 unfolding units
-unstuff-join i none b e = rw add-zero at e
-unstuff-join i (byte {b = x} {l} h p) b e =
-    let n : i + suc (length l) ≡ i + 1 + length l = omega arith in
-    step-plain i x (l ++ b) h ∙ ap (after i (yes x)) (unstuff-join (i + 1) p b (rw n at e))
-unstuff-join i (escape {b = x} {c} {l} x-esc h p) b e =
-    let n : i + suc (suc (length l)) ≡ i + 2 + length l = omega arith in
-    rw x-esc (step-escape i c (l ++ b) h ∙ ap (after i (yes (unescapeOf c))) (unstuff-join (i + 2) p b (rw n at e)))
+unstuff-join i none b = rw (add-zero i) (none-in-front (unstuff i b))
+unstuff-join i (byte {b = x} {l} h p) b =
+    let n : i + 1 + length l ≡ i + suc (length l) = omega arith in
+    step-plain i x (l ++ b) h ∙ ap (after i (yes x)) (unstuff-join (i + 1) p b)
+    ∙ put-in-front i x (units (i + 1) p) (unstuff (i + 1 + length l) b) ∙ rw n
+unstuff-join i (escape {b = x} {c} {l} e h p) b =
+    let n : i + 2 + length l ≡ i + suc (suc (length l)) = omega arith in
+    rw e
+    (step-escape i c (l ++ b) h ∙ ap (after i (yes (unescapeOf c))) (unstuff-join (i + 2) p b)
+    ∙ put-in-front i (unescapeOf c) (units (i + 2) p) (unstuff (i + 2 + length l) b) ∙ rw n)
 
 -- ---- the first byte
 
@@ -55,7 +67,7 @@ value-plain b [] h = refl
 value-plain b (c ∷ l) h = rw (ne-eqb b 0xFD h)
 
 pub front : {l : List ℕ} → Proper l → 0 < length l → Front l
-unfolding stepAt escapeAt
+unfolding stepBy escapeBy
 front none h = absurd (let q : ⊥ = omega arith in q)
 front (byte {b} {l} g p) h =
     record {

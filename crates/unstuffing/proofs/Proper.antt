@@ -12,8 +12,9 @@ use borrow.Author.Tests.{eq-eqb, ne-eqb}
 use Rattle.error.specs.Refusal.{Told, yes, no}
 use Rattle.general.proofs.Cases.{by-test, by-eq}
 use Rattle.stuffing.specs.Stuff.{unescapeOf}
-use Rattle.unstuffing.specs.Private.{Proper, none, byte, escape, kept}
-use Rattle.unstuffing.specs.Unstuff.{escapeAt, stepAt, after, unstuff}
+use Rattle.unstuffing.specs.Escapes.{Proper, none, byte, escape}
+use Rattle.unstuffing.specs.Private.{kept}
+use Rattle.unstuffing.specs.Unstuff.{escapeBy, stepBy, after, unstuff}
 use Rattle.unstuffing.proofs.Unstuffing.{step-plain, step-escape}
 
 -- what it unstuffs to, its first byte being at offset i
@@ -38,7 +39,7 @@ rest-yes : (i v : ℕ) (t : Told (List (ℕ × ℕ))) → isYes (after i (yes v)
 rest-yes i v (yes us) y = tt
 
 pub proper-of : (i : ℕ) (s : List ℕ) → isYes (unstuff i s) → Proper s
-unfolding stepAt escapeAt
+unfolding stepBy escapeBy
 proper-of i [] y = none
 proper-of i (b ∷ []) y = by-eq b 0xFD (λ h. absurd (rw (eq-eqb b 0xFD h) at y)) (λ h. byte h none)
 proper-of i (b ∷ c ∷ l) y =

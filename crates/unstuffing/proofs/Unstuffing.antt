@@ -14,7 +14,7 @@ use Rattle.error.specs.Refusal.{yes, onYes}
 use Rattle.general.proofs.Cases.{by-test, by-eq}
 use Rattle.stuffing.specs.Stuff.{escapeOf, unescapeOf, stuffByte, stuff}
 use Rattle.unstuffing.specs.Private.{widthOf}
-use Rattle.unstuffing.specs.Unstuff.{escapeAt, stepAt, after, unstuff, offsetAt, unitBytes}
+use Rattle.unstuffing.specs.Unstuff.{escapeBy, stepBy, stepAt, after, unstuff, offsetAt, unitBytes}
 use Rattle.stuffing.proofs.Codes.{plain, escaped, unescape-escape}
 
 -- ---- a step of unstuffing
@@ -36,11 +36,11 @@ unstuff-at s i h =
     ∙ rw (← d, drop-drop (widthOf b) i s)
 
 pub step-plain : (i b : ℕ) (l : List ℕ) → (b ≡ 0xFD → ⊥) → unstuff i (b ∷ l) ≡ after i (yes b) (unstuff (i + 1) l)
-unfolding stepAt
+unfolding stepBy
 step-plain i b l h = unstuff-step i b l ∙ simp (ne-eqb _ _ h)
 
 pub step-escape : (i c : ℕ) (l : List ℕ) → (unescapeOf c ≡ 0 → ⊥) → unstuff i (0xFD ∷ c ∷ l) ≡ after i (yes (unescapeOf c)) (unstuff (i + 2) l)
-unfolding stepAt escapeAt
+unfolding stepBy escapeBy
 step-escape i c l h = simp (ne-eqb _ _ h)
 
 -- ---- one byte

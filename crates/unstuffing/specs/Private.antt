@@ -1,7 +1,6 @@
 -- A client may skip this file: words for the private walks over stuffed strings, which no public contract cites.
--- A proper string is one that unstuffs (proofs/Proper): each FD in it is followed by a code.
+-- They speak of proper strings (specs/Escapes), but for a step's answer.
 use Prim.Native.Nat.{ℕ, _+_}
-use mathlib.Core.Path.{_≡_}
 use mathlib.Core.Bool.{cond}
 use mathlib.Core.List.{List, [], _∷_}
 use lib.Dec.{eqb}
@@ -9,11 +8,6 @@ use Rattle.error.specs.Refusal.{Told, yes, refused}
 use Rattle.stuffing.specs.Stuff.{unescapeOf}
 use Rattle.unstuffing.specs.declared.ResultU8.{ResultU8}
 use Rattle.unstuffing.specs.declared.ResultU8.the-variants.{Ok, Err}
-
-pub data Proper : List ℕ → Type 0 where
-  none : Proper []
-  byte : {b : ℕ} {l : List ℕ} → (b ≡ 0xFD → ⊥) → Proper l → Proper (b ∷ l)
-  escape : {b c : ℕ} {l : List ℕ} → b ≡ 0xFD → (unescapeOf c ≡ 0 → ⊥) → Proper l → Proper (b ∷ c ∷ l)
 
 -- how many bytes are not FD: as many as a proper string unstuffs to
 abbrev pub kept : List ℕ → ℕ

@@ -1,4 +1,4 @@
-// Unstuffing of frame.rs: FD and a code are one byte again; the first wrong escape is refused.
+// Unstuffing of frame.rs: FD and a code are one byte again; the first wrong escape is refused, one that is cut off by a number of its own.
 // `unstuffed` counts the bytes that a string unstuffs to. Unstuffing what was stuffed gives it back (proofs/Unstuffing).
 ghost use mathlib.Core.Path.{_≡_};
 ghost use mathlib.Core.Bool.{cond};
@@ -8,7 +8,8 @@ ghost use lib.ListN.{length, getD, drop};
 ghost use Rattle.error.specs.Refusal.{onYes};
 ghost use Rattle.error.specs.Result.{toldUsize};
 ghost use Rattle.stuffing.specs.Stuff.{unescapeOf};
-ghost use Rattle.unstuffing.specs.Private.{Proper, kept, toldU8};
+ghost use Rattle.unstuffing.specs.Escapes.{Proper};
+ghost use Rattle.unstuffing.specs.Private.{kept, toldU8};
 ghost use Rattle.unstuffing.specs.Unstuff.{stepAt, unstuff};
 use error::ResultUsize;
 use error::WireError;
@@ -45,11 +46,9 @@ fn step(s: &[u8], i: usize) -> ResultU8
     if b != ESC {
         return ResultU8::Ok(b);
     }
-    if s.len() - i < 2 {
-        return ResultU8::Err(WireError::InvalidEscape {
-            code: 0x00,
-            offset: i,
-        });
+    let n = s.len();
+    if n - i < 2 {
+        return ResultU8::Err(WireError::CutEscape { offset: i });
     }
     let code = s[i + 1];
     let decoded = unescape(code);

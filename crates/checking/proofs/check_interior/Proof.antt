@@ -7,9 +7,10 @@ use native.Mathlib.Omega.{arith}
 use lib.ListN.{length}
 use Rattle.error.specs.Refusal.{numberOf, valuesOf}
 use Rattle.error.specs.Result.{toldUsize}
+use Rattle.error.proofs.Tells.{part-refused}
 use Rattle.unstuffing.specs.Unstuff.{unstuff}
 use Rattle.checking.proofs.Cases.{few, many}
-use Rattle.checking.proofs.Reading.{Counted, counted-no, counted-yes}
+use Rattle.checking.proofs.Reading.{Counted, counted-yes}
 use Rattle.checking.proofs.check_interior.Statement.{statement}
 use Rattle.checking.proofs.check_interior.Tie as tie
 
@@ -36,7 +37,7 @@ returns c =
     let u = c .before .before .before in
     let a = u .before .before in
     let e = c .before .counted .given .0 .0 in
-    let t = counted-no (unstuff 0 (a .args .s .now)) (numberOf e) (valuesOf e) (ap toldUsize (sym (c .before .counted .given .1)) ∙ u .unstuffed .ensures) in
+    let t = part-refused length (unstuff 0 (a .args .s .now)) (numberOf e) (valuesOf e) (sym (ap toldUsize (sym (c .before .counted .given .1)) ∙ u .unstuffed .ensures)) in
     rw t
 
 returns-2 : tie.Need-returns-2

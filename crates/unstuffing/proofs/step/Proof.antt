@@ -8,7 +8,7 @@ use Prim.Native.Nat.{_+_}
 use native.Mathlib.Omega.{arith}
 use lib.ListN.{drop, drop-of-length-le}
 use lib.Seq.{drop-cons}
-use Rattle.unstuffing.specs.Unstuff.{escapeAt, stepAt}
+use Rattle.unstuffing.specs.Unstuff.{escapeBy, stepBy}
 use Rattle.unstuffing.proofs.step.Statement.{statement}
 use Rattle.unstuffing.proofs.step.Tie as tie
 
@@ -16,14 +16,14 @@ shared-slice-read-b : tie.Need-shared-slice-read-b
 shared-slice-read-b c = search needs
 
 returns : tie.Need-returns
-unfolding stepAt
+unfolding stepBy
 returns c = simp (ne-eqb _ _ (c .if1 .taken))
 
 sub-if2 : tie.Need-sub-if2
 sub-if2 c = search needs
 
 returns-2 : tie.Need-returns-2
-unfolding stepAt escapeAt
+unfolding stepBy escapeBy
 returns-2 c =
     let a = c .before .before .before .before in
     let s = a .args .s .now in
@@ -40,7 +40,7 @@ unescape-requires : tie.Need-unescape-requires
 unescape-requires c κs = search needs
 
 returns-3 : tie.Need-returns-3
-unfolding stepAt escapeAt
+unfolding stepBy escapeBy
 returns-3 c =
     let u = c .before in
     let f = u .before .before in
@@ -50,7 +50,7 @@ returns-3 c =
     (simp (eq-eqb _ _ (f .before .if1 .left), eq-eqb _ _ (sym (u .unescape .ensures) ∙ c .if3 .taken)))
 
 returns-4 : tie.Need-returns-4
-unfolding stepAt escapeAt
+unfolding stepBy escapeBy
 returns-4 c =
     let u = c .before in
     let f = u .before .before in

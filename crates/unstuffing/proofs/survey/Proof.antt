@@ -10,7 +10,8 @@ use lib.Bits.{bitOr}
 use lib.Dec.{eqb}
 use lib.ListN.{length, drop, getD, drop-of-length-le}
 use lib.Seq.{drop-cons}
-use Rattle.unstuffing.specs.Private.{Proper, none, kept}
+use Rattle.unstuffing.specs.Escapes.{Proper, none}
+use Rattle.unstuffing.specs.Private.{kept}
 use Rattle.unstuffing.proofs.Proper.{faultOf, proper-pair, proper-last, both-zero, kept-flag}
 use Rattle.stuffing.proofs.Sums.{counted}
 use Rattle.unstuffing.proofs.survey.Statement.{statement}

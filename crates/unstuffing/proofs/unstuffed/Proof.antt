@@ -6,7 +6,8 @@ use Prim.Native.Nat.{_+_}
 use native.Mathlib.Omega.{arith}
 use lib.ListN.{length}
 use Rattle.error.specs.Refusal.{Told, yes, onYes}
-use Rattle.unstuffing.specs.Private.{Proper, kept}
+use Rattle.unstuffing.specs.Escapes.{Proper}
+use Rattle.unstuffing.specs.Private.{kept}
 use Rattle.unstuffing.proofs.Proper.{unstuff-proper, length-units, kept-most}
 use Rattle.unstuffing.proofs.unstuffed.Statement.{statement}
 use Rattle.unstuffing.proofs.unstuffed.Tie as tie

@@ -10,11 +10,12 @@ use lib.Seq.{length-take-le}
 use Rattle.error.specs.declared.WireError.{WireError}
 use Rattle.error.specs.Refusal.{yes, no, onYes, filled, numberOf, valuesOf}
 use Rattle.checking.specs.declared.Head.{Head}
-use Rattle.checking.specs.Rule.{toldHead}
+use Rattle.error.proofs.Tells.{part-refused}
+use Rattle.checking.specs.Rule.{headOf, toldHead}
 use Rattle.frame.specs.Rule.{checkRule, parseRule, rawFrame, headerOf}
 use Rattle.frame.specs.Private.{raw}
 use Rattle.frame.proofs.Cases.{parse-refused, parse-room, parse-fits}
-use Rattle.frame.proofs.Parsed.{Held, held, head-no, partOf}
+use Rattle.frame.proofs.Parsed.{Held, held, partOf}
 use Rattle.frame.proofs.RawFrame.parse.Statement.{statement}
 use Rattle.frame.proofs.RawFrame.parse.Tie as tie
 
@@ -62,8 +63,8 @@ module _ (c : tie.After-known-told) where
   refused =
       let w = asked .args .wire .now in
       let t =
-      head-no (checkRule w) w (numberOf why) (valuesOf why)
-      (ap toldHead (sym (c .before .checked .given .1)) ∙ c .before .before .before .check .ensures) in
+      part-refused (headOf w) (checkRule w) (numberOf why) (valuesOf why)
+      (sym (ap toldHead (sym (c .before .checked .given .1)) ∙ c .before .before .before .check .ensures)) in
       parse-refused w (length (asked .args .payload .now)) (numberOf why) (valuesOf why) t
 
 check-requires : tie.Need-check-requires
