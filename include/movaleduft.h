@@ -35,9 +35,20 @@ uint64_t mvd_write_uint32(MVD_BUF, uint32_t val, MVD_VALUES);
 uint64_t mvd_write_float40(MVD_BUF, double value, MVD_VALUES);
 uint64_t mvd_write_float40_bits(MVD_BUF, uint64_t bits, MVD_VALUES);
 
-/* abi_frame: frames (frame.rs). The payload fills the front of its buffer; `header` gets DEST, SRC, TYPE and the payload's length.
- * An address byte that is none of the four is refused with 6, DEST's first. */
-uint64_t mvd_parse(const uint8_t *wire, size_t wire_len, uint8_t *payload, size_t payload_len, uint64_t header[4], MVD_VALUES);
+/* abi_frame: frames (frame.rs). `mvd_open` checks a wire and sets `header` to DEST, SRC, TYPE and the payload's length; it copies
+ * nothing and never answers 8. `mvd_copy_payload` makes the same checks, then tests the room (8); the payload fills the front of `buf`,
+ * the rest of it keeps its bytes, and `len` gets the payload's length. What was opened is copied, given room for `header[3]` bytes:
+ *
+ *     uint64_t header[4], values[3], refusal;
+ *     uint8_t payload[157];
+ *     size_t len;
+ *     if ((refusal = mvd_open(wire, wire_len, header, values)) != 0) return refusal;
+ *     if (header[2] != 0xD4 || header[3] > sizeof payload) return pass_on(header);
+ *     mvd_copy_payload(wire, wire_len, payload, sizeof payload, &len, values);    (0, and len is header[3])
+ *
+ * `mvd_encode` writes a wire; an address byte that is none of the four is refused with 6, DEST's first. */
+uint64_t mvd_open(const uint8_t *wire, size_t wire_len, uint64_t header[4], MVD_VALUES);
+uint64_t mvd_copy_payload(const uint8_t *wire, size_t wire_len, uint8_t *buf, size_t buf_len, size_t *len, MVD_VALUES);
 uint64_t mvd_encode(uint8_t dest, uint8_t src, uint8_t type_id, MVD_PAYLOAD, uint8_t *wire, size_t wire_len, size_t *len, MVD_VALUES);
 
 /* abi_splitter: the splitter. Its state is `count` and `skipping` (0, or another number for yes), 0 and 0 at the start, and is altered

@@ -1,8 +1,9 @@
 #!/usr/bin/env python3
-"""What `frames` prints, written from document 01 and the later requests alone.  usage: tests/model.py < CAPTURE"""
+"""What `frames` prints, written from document 01 and the later requests alone.
+usage: tests/model.py [payloads] < CAPTURE    (with that word, each frame's payload behind its line)"""
 import sys
 
-HOLD = ROOM = 2048
+HOLD = 2048
 ADDRESSES = (0x10, 0x12, 0x30, 0x40)
 CODES = {1: 0xF0, 2: 0xF1, 3: 0xFD, 4: 0xFA}
 ESCAPES = {byte: code for code, byte in CODES.items()}
@@ -48,47 +49,50 @@ def unstuff(inner):
     return units, None
 
 
-def parse(wire):
-    """(None, dest, src, type, payload length), or (number, values ..): the tests in document 01's order."""
+def opened(wire):
+    """((dest, src, type, payload), None), or (None, (number, values ..)): the tests in document 01's order."""
     if len(wire) < 7:
-        return 1, len(wire)
+        return None, (1, len(wire))
     if wire[0] != 0xF0:
-        return 2, wire[0]
+        return None, (2, wire[0])
     if wire[-1] != 0xF1:
-        return 3,
+        return None, (3,)
     inner = wire[1:-1]
     units, refusal = unstuff(inner)
     if refusal:
-        return refusal
+        return None, refusal
     if len(units) < 5:
-        return 1, len(wire)
+        return None, (1, len(wire))
     received = units[-2][0] * 256 + units[-1][0]
     computed = sum(inner[:units[-2][1]]) % 65536
     if received != computed:
-        return 5, received, computed
+        return None, (5, received, computed)
     for address in (units[0][0], units[1][0]):
         if address not in ADDRESSES:
-            return 6, address
-    if len(units) - 5 > ROOM:
-        return 8, len(units) - 5, ROOM
-    return None, units[0][0], units[1][0], units[2][0], len(units) - 5
+            return None, (6, address)
+    dest, src, kind, *payload = (byte for byte, _ in units[:-2])
+    return (dest, src, kind, payload), None
 
 
-def line(number, wire, hold):
+def line(number, wire, hold, shown):
     if len(wire) > hold:
         return f"{number} - LONG"
-    answer = parse(wire)
-    if answer[0] is None:
-        return f"{number} {len(wire)} OK {answer[1]:02X} {answer[2]:02X} {answer[3]:02X} {answer[4]}"
-    return f"{number} {len(wire)} NO " + " ".join(map(str, answer))
+    fields, refusal = opened(wire)
+    if refusal:
+        return f"{number} {len(wire)} NO " + " ".join(map(str, refusal))
+    dest, src, kind, payload = fields
+    copied = "\npayload" + "".join(f" {byte:02X}" for byte in payload) if shown else ""
+    return f"{number} {len(wire)} OK {dest:02X} {src:02X} {kind:02X} {len(payload)}" + copied
 
 
-def frames(stream, hold=HOLD):
-    """All that the program prints."""
+def frames(stream, hold=HOLD, shown=False):
+    """All that the program prints; each payload behind its frame's line, where it is to be shown."""
     wires, rest = split(stream)
     end = f"end {len(rest)} 0" if len(rest) <= hold else "end 0 1"
-    return "".join(text + "\n" for text in [*(line(n, w, hold) for n, w in enumerate(wires)), end])
+    return "".join(text + "\n" for text in [*(line(n, w, hold, shown) for n, w in enumerate(wires)), end])
 
 
 if __name__ == "__main__":
-    sys.stdout.write(frames(sys.stdin.buffer.read()))
+    if sys.argv[1:] not in ([], ["payloads"]):
+        sys.exit(__doc__)
+    sys.stdout.write(frames(sys.stdin.buffer.read(), shown=len(sys.argv) > 1))

@@ -77,20 +77,20 @@ fn splitting(stream: &[u8], frames: usize) {
 }
 
 fn framing(wires: &[Vec<u8>]) {
-    let (mut payload, mut header, mut values) = (vec![0u8; 2048], [0u64; 4], [0u64; 3]);
-    row(
-        "parse",
-        wires.len(),
-        || wires.iter().for_each(|w| sink(RawFrame::parse(black_box(w)))),
-        || {
-            wires.iter().for_each(|w| unsafe {
-                let (p, h, v) = (payload.as_mut_ptr(), header.as_mut_ptr(), values.as_mut_ptr());
-                black_box(c::mvd_parse(w.as_ptr(), w.len(), p, 2048, h, v));
-            })
-        },
-    );
+    let (mut payload, mut header, mut values, mut length) = (vec![0u8; 2048], [0u64; 4], [0u64; 3], 0usize);
+    let (p, n, h, v) = (payload.as_mut_ptr(), &mut length as *mut usize, header.as_mut_ptr(), values.as_mut_ptr());
+    let open = |w: &Vec<u8>| sink(unsafe { c::mvd_open(w.as_ptr(), w.len(), h, v) });
+    let copy = |w: &Vec<u8>| sink(unsafe { c::mvd_copy_payload(w.as_ptr(), w.len(), p, 2048, n, v) });
+    let both = |w: &Vec<u8>| {
+        open(w);
+        copy(w);
+    };
+    let rust = || wires.iter().for_each(|w| sink(RawFrame::parse(black_box(w))));
+    row("open (Rust: parse)", wires.len(), rust, || wires.iter().for_each(open));
+    row("copy_payload (Rust: parse)", wires.len(), rust, || wires.iter().for_each(copy));
+    row("open, then copy_payload (Rust: parse)", wires.len(), rust, || wires.iter().for_each(both));
     let parsed: Vec<RawFrame> = wires.iter().map(|w| RawFrame::parse(w).unwrap()).collect();
-    let (mut wire, mut length) = (vec![0u8; 2048], 0usize);
+    let mut wire = vec![0u8; 2048];
     row(
         "encode",
         parsed.len(),

@@ -64,6 +64,11 @@ fn case(op: u8, a: u64, b: u64, data: Vec<u8>) -> Case {
     Case { op, a, b, data }
 }
 
+/// A wire opened, and its payload copied into a buffer of some length.
+pub fn wire_cases(room: u64, wire: &[u8]) -> [Case; 2] {
+    [case(ops::OPEN, 0, 0, wire.to_vec()), case(ops::COPY_PAYLOAD, room, 0, wire.to_vec())]
+}
+
 fn wire(r: &mut Random, payload: Vec<u8>) -> Vec<u8> {
     let addr = |b| BusAddr::from_byte(b).unwrap();
     let (dest, src) = (addr(r.one_of(&ADDRESSES)), addr(r.one_of(&ADDRESSES)));
@@ -116,6 +121,12 @@ fn write_case(r: &mut Random) -> Case {
     case(op, at, value, r.bytes(len))
 }
 
+/// The wire opened, or its payload copied.
+fn wire_case(r: &mut Random, room: u64, wire: Vec<u8>) -> Case {
+    let [open, copy] = wire_cases(room, &wire);
+    if r.below(3) == 0 { open } else { copy }
+}
+
 fn frame_case(r: &mut Random) -> Case {
     let len = match r.below(10) {
         0 => r.below(600),
@@ -130,18 +141,20 @@ fn frame_case(r: &mut Random) -> Case {
                 bytes[0] = 0xF0;
                 bytes[len - 1] = 0xF1;
             }
-            case(ops::PARSE, 64, 0, bytes)
+            wire_case(r, 64, bytes)
         }
         1 => {
             let payload = r.bytes(len);
             let sound = wire(r, payload);
             let room = (len + r.below(3)).saturating_sub(r.below(3));
-            case(ops::PARSE, room as u64, 0, sound)
+            wire_case(r, room as u64, sound)
         }
         2 => {
             let payload = r.bytes(len);
             let sound = wire(r, payload);
-            case(ops::PARSE, 700, 0, damage(r, sound))
+            let hurt = damage(r, sound);
+            let room = r.one_of(&[0, 700]);
+            wire_case(r, room, hurt)
         }
         _ => {
             let payload = r.bytes(len);
@@ -363,10 +376,10 @@ pub fn bounded(r: &mut Random, mut take: impl FnMut(Case)) {
             }
         }
     }
-    // every wire of up to eight bytes over the bytes that matter, between the markers
+    // every wire of up to five of the bytes that matter, between the markers
     let bytes = [0x40, 0x10, 0x00, 0x01, 0x50, 0x51, 0xF0, 0xF1, 0xFA, 0xFD];
     for inner in strings(&bytes, 5) {
-        take(case(ops::PARSE, 2, 0, [&[0xF0][..], &inner, &[0xF1]].concat()));
+        wire_cases(2, &[&[0xF0][..], &inner, &[0xF1]].concat()).into_iter().for_each(&mut take);
     }
     // every stream of up to six bytes over four, for H from 0 to 4, whole and byte by byte
     let bytes = [0x00, 0xF0, 0xF1, 0xFD];
@@ -392,7 +405,7 @@ pub const ENDINGS: [&[u8]; 5] = [&[0xFD], &[0xFD, 0xFD], &[0xFD, 0x03, 0xFD], &[
 fn endings(mut take: impl FnMut(Case)) {
     let mut wires = |front: &[u8]| {
         for ending in ENDINGS {
-            take(case(ops::PARSE, 2, 0, [&[0xF0], front, ending, &[0xF1]].concat()));
+            wire_cases(2, &[&[0xF0], front, ending, &[0xF1]].concat()).into_iter().for_each(&mut take);
         }
     };
     for n in 0..=u16::MAX {
@@ -421,7 +434,7 @@ pub fn exhaustive(mut take: impl FnMut(Case)) {
     for n in 0..=u16::MAX {
         let bytes = n.to_be_bytes();
         for len in [1, 2] {
-            take(case(ops::PARSE, 2, 0, bytes[..len].to_vec()));
+            wire_cases(2, &bytes[..len]).into_iter().for_each(&mut take);
             take(case(ops::SHOT_TEXT, 0, 0, bytes[..len].to_vec()));
         }
     }
@@ -447,8 +460,8 @@ pub fn long(r: &mut Random) -> Vec<Case> {
     for n in [257, 2_048, 65_535] {
         let payload = r.bytes(n);
         let sound = wire(r, payload);
-        cases.push(case(ops::PARSE, n as u64, 0, sound.clone()));
-        cases.push(case(ops::PARSE, n as u64 - 1, 0, sound.clone()));
+        cases.extend(wire_cases(n as u64, &sound));
+        cases.push(case(ops::COPY_PAYLOAD, n as u64 - 1, 0, sound.clone()));
         cases.push(case(ops::SPLIT, sound.len() as u64, 0xFFFF_FFFF_FFFF_FFFF, sound.clone()));
         cases.push(case(ops::SPLIT, sound.len() as u64 - 1, 0xFFFF_FFFF_FFFF_FFFF, sound));
     }

@@ -8,7 +8,7 @@ const CUT_ESCAPE: u64 = 12;
 /// The offset of the escape that is cut off, where a case is a wire whose first wrong escape it is: found in the wire's own bytes.
 pub fn found(c: &Case) -> Option<u64> {
     let inner = match &c.data[..] {
-        [0xF0, inner @ .., 0xF1] if c.op == ops::PARSE && inner.len() >= 5 => inner,
+        [0xF0, inner @ .., 0xF1] if matches!(c.op, ops::OPEN | ops::COPY_PAYLOAD) && inner.len() >= 5 => inner,
         _ => return None,
     };
     let mut bytes = inner.iter().enumerate();

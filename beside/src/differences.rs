@@ -65,9 +65,12 @@ fn frames() {
     row("encode no bytes into 6", ops::ENCODE, 0x10_4001, 6, &[], || hex(&frame(Vec::new()).encode()));
     let wire = frame(vec![7, 7]).encode();
     let same = wire.clone();
+    let sound = [0xF0, 0x40, 0x10, 0x01, 0x00, 0x51, 0xF1];
+    row("open F0 40 10 01 00 51 F1", ops::OPEN, 0, 0, &sound, move || format!("{:?}", RawFrame::parse(&sound)));
+    row("copy the payload of F0 40 10 01 00 51 F1", ops::COPY_PAYLOAD, 1, 0, &sound, move || format!("{:?}", RawFrame::parse(&sound).map(|f| f.payload)));
     let cut = [0xF0, 0x40, 0x10, 0x01, 0x00, 0xFD, 0xF1];
-    row("parse F0 40 10 01 00 FD F1", ops::PARSE, 0, 0, &cut, move || format!("{:?}", RawFrame::parse(&cut)));
-    row("parse a payload of 2 into 1", ops::PARSE, 1, 0, &wire, move || {
+    row("open F0 40 10 01 00 FD F1", ops::OPEN, 0, 0, &cut, move || format!("{:?}", RawFrame::parse(&cut)));
+    row("copy a payload of 2 into 1", ops::COPY_PAYLOAD, 1, 0, &wire, move || {
         format!("{:?}", RawFrame::parse(&same).map(|f| f.payload))
     });
     row("split F0 00 00 F1, H 3", ops::SPLIT, 3, 0, &[0xF0, 0, 0, 0xF1], || {

@@ -23,9 +23,9 @@ fn named(r: &mut Random) -> Vec<Case> {
         &[0xF0, 0x40, 0x10, 0x01, 0x00, 0xFD, 0xF1],
         &[0xF0, 0xFD, 0x01, 0x40, 0x10, 0x01, 0xF1],
     ];
-    let mut list: Vec<Case> = wires.iter().map(|w| case(ops::PARSE, 4, 0, w)).collect();
+    let mut list: Vec<Case> = wires.iter().flat_map(|w| cases::wire_cases(4, w)).collect();
     for front in [&[0xF0, 0x40, 0x10][..], &[0xF0, 0x40, 0x10, 0x01, 0x00, 0x51]] {
-        list.extend(cases::ENDINGS.map(|ending| case(ops::PARSE, 4, 0, &[front, ending, &[0xF1]].concat())));
+        list.extend(cases::ENDINGS.iter().flat_map(|ending| cases::wire_cases(4, &[front, ending, &[0xF1]].concat())));
     }
     for payload in [&[][..], &[0xF0], &[0x9F], &[0xFA], &[0xFF; 257]] {
         list.push(case(ops::ENCODE, 0x40_1001, 300, payload));
@@ -74,7 +74,11 @@ fn edges() -> Vec<Case> {
 /// The limits that document 01 adds: room, H, an index, a number, a state.
 fn limits(r: &mut Random) -> Vec<Case> {
     let wire = [0xF0, 0x40, 0x10, 0x01, 0x07, 0x08, 0x00, 0x60, 0xF1];
-    let mut list: Vec<Case> = [1, 2, 3].map(|room| case(ops::PARSE, room, 0, &wire)).to_vec();
+    let mut list: Vec<Case> = [1, 2, 3].map(|room| case(ops::COPY_PAYLOAD, room, 0, &wire)).to_vec();
+    // no room either, but the address, the checksum or the escape is told first
+    list.push(case(ops::COPY_PAYLOAD, 1, 0, &[0xF0, 0x41, 0x10, 0x01, 0x07, 0x08, 0x00, 0x61, 0xF1]));
+    list.push(case(ops::COPY_PAYLOAD, 1, 0, &[0xF0, 0x40, 0x10, 0x01, 0x07, 0x08, 0x00, 0x61, 0xF1]));
+    list.push(case(ops::COPY_PAYLOAD, 1, 0, &[0xF0, 0x40, 0x10, 0x01, 0x07, 0x08, 0xFD, 0x05, 0x00, 0x60, 0xF1]));
     list.extend([8, 9, 10].map(|room| case(ops::ENCODE, 0x40_1001, room, &[7, 8])));
     list.extend([0x41_1001, 0x40_1101, 0x41_1101].map(|fields| case(ops::ENCODE, fields, 20, &[])));
     list.extend([0, 8, 9, 10].map(|room| case(ops::SPLIT, room, 0x0203_0405_0001_0902, &[&wire[..], &wire[..4], &wire].concat())));
@@ -102,7 +106,7 @@ fn limits(r: &mut Random) -> Vec<Case> {
 /// What the program has room for: bytes, and the buffer that a case lends.
 fn fits(c: &Case) -> bool {
     let lent = match c.op {
-        ops::PARSE | ops::SPLIT => c.a,
+        ops::COPY_PAYLOAD | ops::SPLIT => c.a,
         ops::ENCODE | ops::BAY_LOG => c.b,
         ops::SPEED_PROFILE => c.a * 16,
         _ => 0,

@@ -19,14 +19,16 @@ pub const WRITE_INT32: u8 = 0x15;
 pub const WRITE_UINT32: u8 = 0x16;
 pub const WRITE_FLOAT40: u8 = 0x17;
 pub const WRITE_FLOAT40_BITS: u8 = 0x18;
-/// a is the lent payload buffer's length.
-pub const PARSE: u8 = 0x20;
+/// Opens a wire: the Rust's parse without the payload.
+pub const OPEN: u8 = 0x20;
 /// a is DEST, SRC and TYPE, b the lent wire buffer's length.
 pub const ENCODE: u8 = 0x21;
 /// a is H; the eight bytes of b are the sizes of the chunks offered, in turn (see `sizes`).
 pub const SPLIT: u8 = 0x22;
 /// a is the count, b the mark, the bytes are the hold buffer: an empty chunk is offered to that state.
 pub const STATE: u8 = 0x23;
+/// The Rust's parse without the header: a is the lent buffer's length.
+pub const COPY_PAYLOAD: u8 = 0x24;
 pub const FLIGHT_RESULT: u8 = 0x30;
 pub const FLIGHT_RESULT_V1: u8 = 0x31;
 pub const CLUB_RESULT: u8 = 0x32;

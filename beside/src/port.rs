@@ -21,7 +21,8 @@ pub mod c {
         pub fn mvd_write_uint32(b: *mut u8, n: usize, at: usize, val: u32, v: *mut u64) -> u64;
         pub fn mvd_write_float40(b: *mut u8, n: usize, at: usize, value: f64, v: *mut u64) -> u64;
         pub fn mvd_write_float40_bits(b: *mut u8, n: usize, at: usize, bits: u64, v: *mut u64) -> u64;
-        pub fn mvd_parse(w: *const u8, wn: usize, p: *mut u8, pn: usize, h: *mut u64, v: *mut u64) -> u64;
+        pub fn mvd_open(w: *const u8, wn: usize, h: *mut u64, v: *mut u64) -> u64;
+        pub fn mvd_copy_payload(w: *const u8, wn: usize, b: *mut u8, bn: usize, n: *mut usize, v: *mut u64) -> u64;
         pub fn mvd_encode(
             dest: u8, src: u8, type_id: u8, p: *const u8, pn: usize, w: *mut u8, wn: usize, len: *mut usize, v: *mut u64,
         ) -> u64;
@@ -126,14 +127,22 @@ fn record(wholes: usize, floats: usize, call: impl FnOnce(*mut i32, *mut f64, *m
     }
 }
 
-fn parse(c: &Case) -> Answer {
-    let mut buf = vec![ops::UNTOUCHED; c.a as usize];
+fn open(c: &Case) -> Answer {
     let mut header = [MARK; 5];
-    let r = told(|v| unsafe {
-        c::mvd_parse(c.data.as_ptr(), c.data.len(), buf.as_mut_ptr(), buf.len(), header.as_mut_ptr(), v)
-    });
+    let r = told(|v| unsafe { c::mvd_open(c.data.as_ptr(), c.data.len(), header.as_mut_ptr(), v) });
     assert!(header[4] == MARK && (r.refusal == 0 || header[0] == MARK), "more of the header was written");
     let said = if r.refusal == 0 { header[..4].iter().map(|&n| n as i128).collect() } else { r.whole };
+    Answer { whole: said, ..r }
+}
+
+fn copy_payload(c: &Case) -> Answer {
+    let mut buf = vec![ops::UNTOUCHED; c.a as usize];
+    let mut length = 77usize;
+    let r = told(|v| unsafe {
+        c::mvd_copy_payload(c.data.as_ptr(), c.data.len(), buf.as_mut_ptr(), buf.len(), &mut length, v)
+    });
+    assert!(r.refusal == 0 || length == 77, "a refusal wrote");
+    let said = if r.refusal == 0 { vec![length as i128] } else { r.whole };
     Answer { whole: said, bytes: buf, ..r }
 }
 
@@ -345,7 +354,8 @@ pub fn ask(c: &Case) -> Answer {
         ops::WRITE_UINT32 => write!(mvd_write_uint32, c, val),
         ops::WRITE_FLOAT40 => write!(mvd_write_float40, c, f64::from_bits(c.b)),
         ops::WRITE_FLOAT40_BITS => write!(mvd_write_float40_bits, c, c.b),
-        ops::PARSE => parse(c),
+        ops::OPEN => open(c),
+        ops::COPY_PAYLOAD => copy_payload(c),
         ops::ENCODE => encode(c),
         ops::SPLIT => split(c),
         ops::STATE => state(c),

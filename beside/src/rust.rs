@@ -85,14 +85,23 @@ fn pushed(f: impl FnOnce(&mut Vec<u8>)) -> Vec<u8> {
     v
 }
 
-fn parse(c: &Case) -> Answer {
+/// The Rust's parse, its payload as a length.
+fn open(c: &Case) -> Answer {
+    match RawFrame::parse(&c.data) {
+        Err(e) => refusal(e),
+        Ok(f) => whole(&[f.dest.as_byte() as i64, f.src.as_byte() as i64, f.type_id as i64, f.payload.len() as i64]),
+    }
+}
+
+/// The Rust's parse, its payload at the front of a lent buffer, or 8.
+fn copy_payload(c: &Case) -> Answer {
     let mut buf = vec![ops::UNTOUCHED; c.a as usize];
     let mut answer = match RawFrame::parse(&c.data) {
         Err(e) => refusal(e),
         Ok(f) if f.payload.len() > buf.len() => Answer::refused(8, &[f.payload.len() as u64, buf.len() as u64]),
         Ok(f) => {
             buf[..f.payload.len()].copy_from_slice(&f.payload);
-            whole(&[f.dest.as_byte() as i64, f.src.as_byte() as i64, f.type_id as i64, f.payload.len() as i64])
+            whole(&[f.payload.len() as i64])
         }
     };
     answer.bytes = buf;
@@ -335,7 +344,8 @@ pub fn ask(c: &Case) -> Answer {
         ops::WRITE_UINT32 => written(c, &pushed(|v| codec::write_uint32(v, val))),
         ops::WRITE_FLOAT40 => written(c, &pushed(|v| codec::write_float40(v, f64::from_bits(bits(f64::from_bits(c.b)))))),
         ops::WRITE_FLOAT40_BITS => written(c, &pushed(|v| codec::write_float40(v, f64::from_bits(c.b)))),
-        ops::PARSE => parse(c),
+        ops::OPEN => open(c),
+        ops::COPY_PAYLOAD => copy_payload(c),
         ops::ENCODE => encode(c),
         ops::SPLIT => split(c),
         ops::STATE => state(c),

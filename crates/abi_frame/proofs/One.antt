@@ -3,12 +3,17 @@
 use mathlib.Core.Path.{_≡_}
 use Rattle.general.proofs.One.{plain}
 use Rattle.abi.proofs.OnePassing.{one-passing}
-use Rattle.abi_frame.proofs.mvd_parse.Reads as parse
+use Rattle.abi_frame.proofs.mvd_open.Reads as opening
+use Rattle.abi_frame.proofs.mvd_copy_payload.Reads as copying
 use Rattle.abi_frame.proofs.mvd_encode.Reads as encode
 
-pub one-parse : (κs a r s x y : _) → parse.Post κs a r x → parse.Post κs a s y
+pub one-open : (κs a r s x y : _) → opening.Post κs a r x → opening.Post κs a s y
+    → (r ≡ s) × (x .1 .0 .now ≡ y .1 .0 .now) × (x .1 .1 .0 .now ≡ y .1 .1 .0 .now)
+one-open κs a r s x y = one-passing
+
+pub one-copy-payload : (κs a r s x y : _) → copying.Post κs a r x → copying.Post κs a s y
     → (r ≡ s) × (x .1 .0 .now ≡ y .1 .0 .now) × (x .1 .1 .0 .now ≡ y .1 .1 .0 .now) × (x .1 .1 .1 .0 .now ≡ y .1 .1 .1 .0 .now)
-one-parse κs a r s x y p q =
+one-copy-payload κs a r s x y p q =
     let e = one-passing (p .0) (q .0) in
     (e .0, plain (p .1) (q .1), e .1, e .2)
 

@@ -3,7 +3,7 @@
 ghost use mathlib.Core.Path.{_≡_};
 ghost use lib.ListN.{length};
 ghost use Rattle.error.specs.Refusal.{onYes, filled};
-ghost use Rattle.frame.specs.Rule.{parseRule, headerOf};
+ghost use Rattle.frame.specs.Rule.{openRule, copyRule};
 ghost use Rattle.abi.specs.Answer.{Passed};
 ghost use Rattle.abi_frame.specs.Frames.{wordsOf, encodedOf};
 use abi::tell;
@@ -14,18 +14,11 @@ use frame::RawFrame;
 use frame::ResultRawFrame;
 
 #[no_mangle]
-pub extern "C" fn mvd_parse(
-    wire: &[u8],
-    payload: &mut [u8],
-    header: &mut [u64; 4],
-    values: &mut [u64; 3],
-) -> u64
-    ensures reply { λ k. ⌜ Passed (onYes wordsOf (onYes headerOf (parseRule (now (wire .entry)) (length (now (payload .entry))))))
+pub extern "C" fn mvd_open(wire: &[u8], header: &mut [u64; 4], values: &mut [u64; 3]) -> u64
+    ensures { λ k. ⌜ Passed (onYes wordsOf (openRule (now (wire .entry))))
         (now (header .entry)) (now (values .entry)) k (now (header .exit)) (now (values .exit)) ⌝ }
-    ensures bytes { λ k. ⌜ now (payload .exit)
-        ≡ filled (onYes (λ f. f .payload) (parseRule (now (wire .entry)) (length (now (payload .entry))))) (now (payload .entry)) ⌝ }
 {
-    match RawFrame::parse(wire, payload) {
+    match RawFrame::open(wire) {
         ResultRawFrame::Ok(f) => {
             let dest = f.dest;
             let src = f.src;
@@ -38,6 +31,26 @@ pub extern "C" fn mvd_parse(
             0
         }
         ResultRawFrame::Err(e) => tell(e, values),
+    }
+}
+
+#[no_mangle]
+pub extern "C" fn mvd_copy_payload(
+    wire: &[u8],
+    buf: &mut [u8],
+    len: &mut usize,
+    values: &mut [u64; 3],
+) -> u64
+    ensures reply { λ k. ⌜ Passed (onYes length (copyRule (now (wire .entry)) (length (now (buf .entry)))))
+        (now (len .entry)) (now (values .entry)) k (now (len .exit)) (now (values .exit)) ⌝ }
+    ensures bytes { λ k. ⌜ now (buf .exit) ≡ filled (copyRule (now (wire .entry)) (length (now (buf .entry)))) (now (buf .entry)) ⌝ }
+{
+    match RawFrame::copy_payload(wire, buf) {
+        ResultUsize::Ok(n) => {
+            *len = n;
+            0
+        }
+        ResultUsize::Err(e) => tell(e, values),
     }
 }
 

@@ -12,10 +12,9 @@ pub fn print_all()
     ensures { λ r. ⌜ r ≡ tt ⌝ }
 {
     let mut hold = [0u8; 2048];
-    let mut payload = [0u8; 2048];
     let mut piece = [0u8; 8192];
     let mut lines = line_buffer();
-    let session = read_all(&mut hold, &mut payload, &mut piece, &mut lines);
+    let session = read_all(&mut hold, &mut piece, &mut lines);
     let splitter = session.splitter;
     let reply = report::end_line(splitter.count, splitter.skipping, &mut lines);
     print(reply, &lines);
@@ -32,9 +31,9 @@ fn line_buffer() -> [u8; 1048576]
 // one that calls of `piece` lead to, each with room for its lines.
 // A proved loop has to end, and nothing says that the input does: the turns are counted down from a
 // number that no run uses up.
-fn read_all(hold: &mut [u8], payload: &mut [u8], piece: &mut [u8], lines: &mut [u8]) -> Session
+fn read_all(hold: &mut [u8], piece: &mut [u8], lines: &mut [u8]) -> Session
     requires { ⌜ (length (now piece) ≡ 8192) × (length (now lines) ≡ 1048576) ⌝ }
-    ensures { λ r. ⌜ Reached (now (hold .entry)) (now (payload .entry)) (stage r (now (hold .exit)) (now (payload .exit))) ⌝ }
+    ensures { λ r. ⌜ Reached (now (hold .entry)) (stage r (now (hold .exit))) ⌝ }
 {
     let mut session = Session::new();
     let mut turns = u64::MAX;
@@ -45,7 +44,7 @@ fn read_all(hold: &mut [u8], payload: &mut [u8], piece: &mut [u8], lines: &mut [
             break;
         }
         let n = io::count(got, piece);
-        let ran = session.piece(hold, payload, &piece[..n], lines);
+        let ran = session.piece(hold, &piece[..n], lines);
         session = ran.session;
         let reply = ran.reply;
         if !print(reply, lines) {

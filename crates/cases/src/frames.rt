@@ -1,23 +1,34 @@
-// Frames and the splitter: the operations 20 (parse), 21 (encode), 22 (split) and 23 (a state).
+// Frames and the splitter: the operations 20 (open), 21 (encode), 22 (split), 23 (a state) and 24 (copy_payload).
 // The case's numbers are the lent buffer's length, DEST, SRC and TYPE, H, and the sizes of the chunks offered in turn.
 use crate::lent;
 use crate::say;
 use crate::within;
 use libc::STDOUT_FILENO;
 
-pub(crate) fn parse(a: usize, wire: &[u8]) {
-    let mut room = lent();
-    let n = within(a, &room);
-    let payload = &mut room[..n];
+pub(crate) fn open(wire: &[u8]) {
     let mut header = [0u64; 4];
     let mut values = [0u64; 3];
-    let k = abi_frame::mvd_parse(wire, payload, &mut header, &mut values);
+    let k = abi_frame::mvd_open(wire, &mut header, &mut values);
     say::told(k, &values);
     if k == 0 {
         let words = &header;
         say::wholes(words, 4);
     }
-    say::bytes(payload);
+    say::end();
+}
+
+pub(crate) fn copy_payload(a: usize, wire: &[u8]) {
+    let mut room = lent();
+    let n = within(a, &room);
+    let buf = &mut room[..n];
+    let mut length = 0usize;
+    let mut values = [0u64; 3];
+    let k = abi_frame::mvd_copy_payload(wire, buf, &mut length, &mut values);
+    say::told(k, &values);
+    if k == 0 {
+        say::whole(length as u64);
+    }
+    say::bytes(buf);
 }
 
 pub(crate) fn encode(head: &[u8], b: u64, payload: &[u8]) {

@@ -1,16 +1,17 @@
 -- A wire is refused for its first wrong escape exactly where it has one and passed what is tested before:
--- 12 where the escape is cut off, 4 with a code where that code is behind its FD, 00 or another.
+-- 12 where the escape is cut off, 4 with a code where that code is behind its FD, 00 or another. No test of a wire asks for room (`never-8`).
 use mathlib.Core.Path.{_≡_, refl, ap, _∙_}
 use mathlib.Core.Bool.{false, not}
 use mathlib.Core.List.{List, [], _∷_}
 use Prim.Native.Nat.{ℕ, _-_}
+use native.Mathlib.Omega.{arith}
 use lib.Dec.{eqb, ltb}
 use lib.ListN.{length, getD}
 use Rattle.error.specs.Refusal.{Told, no, andThen}
 use Rattle.error.proofs.Tells.{told-before, test-passed}
 use Rattle.unstuffing.specs.Unstuff.{wrongEscape, unstuff}
 use Rattle.unstuffing.specs.Escapes.{FirstWrong}
-use Rattle.unstuffing.proofs.Wrong.{first-told, told-cut, told-code}
+use Rattle.unstuffing.proofs.Wrong.{first-told, first-found, told-cut, told-code}
 use Rattle.checking.specs.Rule.{interior, unitsRule, checkRule}
 use Rattle.checking.specs.Wrong.{Enclosed, CutOff, WrongCode}
 use Rattle.checking.proofs.Cases.{framed}
@@ -42,6 +43,18 @@ escapes-told w k vs past-1 past-2 past-3 not-1 not-5 not-6 e =
       enclosed w (a .0) (b .0) (c .0),
       told-before (unstuff 0 (interior w)) (unitsRule (length w) (interior w)) k vs (units-tell k not-1 not-5 not-6 (length w) (interior w)) (c .1),
     )
+
+-- ---- request 9: room is not asked for, so 8 is never told
+
+escape-not-8 : (o : ℕ) (l vs : List ℕ) → wrongEscape {A = List (ℕ × ℕ)} o l ≡ no 8 vs → ⊥
+escape-not-8 o [] vs e = let z : _≡_ {A = ℕ} 12 8 = cc in absurd (let q : ⊥ = omega arith in q)
+escape-not-8 o (c ∷ l) vs e = let z : _≡_ {A = ℕ} 4 8 = cc in absurd (let q : ⊥ = omega arith in q)
+
+pub never-8 : (w vs : List ℕ) → checkRule w ≡ no 8 vs → ⊥
+never-8 w vs e =
+    let t = escapes-told w 8 vs refl refl refl refl refl refl e in
+    let f = first-found 0 (interior w) 8 vs (t .1) in
+    escape-not-8 _ (f .behind) vs (f .told)
 
 -- ---- 12, and 4 with its code
 

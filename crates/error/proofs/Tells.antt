@@ -37,6 +37,11 @@ pub told-before : {A B : Type 0} (t : Told A) (rule : A → Told B) (k : ℕ) (v
 told-before (yes a) rule k vs h e = absurd (apart k vs (rule a) (sym e) (h a))
 told-before (no l ws) rule k vs h e = cc
 
+-- a part of a part is one part
+pub part-of-part : {A B C : Type 0} (f : A → B) (g : B → C) (t : Told A) → onYes g (onYes f t) ≡ onYes (λ a. g (f a)) t
+part-of-part f g (yes a) = refl
+part-of-part f g (no k vs) = refl
+
 -- a part of a value is no refusal
 pub part-refused : {A B : Type 0} (f : A → B) (t : Told A) (k : ℕ) (vs : List ℕ) → onYes f t ≡ no k vs → t ≡ no k vs
 part-refused f (yes a) k vs e = absurd (apart k vs (yes (f a)) (sym e) refl)

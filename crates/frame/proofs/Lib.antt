@@ -5,6 +5,7 @@ pub mod Walking
 pub mod Parsed
 pub mod Wires
 pub mod Round
+pub mod Pair
 pub mod Rust
 pub mod One
 pub mod Examples

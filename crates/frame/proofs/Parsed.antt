@@ -1,24 +1,25 @@
--- What parsing takes is what checking takes, with room for the payload; where a wire is told to have its payload, it stands.
--- `Held` is what a head that was answered tells of the fields behind it.
+-- What parsing takes is what checking takes, with room for the payload, which a buffer as long as the wire has (`room-of-wire`).
+-- `Held` is what a head that was answered tells of the fields behind it: where it says that the payload lies, it stands.
 use mathlib.Core.Path.{_≡_, refl, sym, ap, _∙_, subst}
 use mathlib.Core.List.{List, [], _∷_}
 use Prim.Native.Nat.{ℕ, _-_, _≤_}
 use native.Mathlib.Omega.{arith}
 use lib.Dec.{ltb}
-use lib.ListN.{length, take, drop, length-map}
+use lib.ListN.{length, take, drop, length-map, length-take}
 use borrow.Author.Tests.{ltb-false}
 use Rattle.error.specs.Refusal.{Told, yes, no, onYes}
 use Rattle.error.proofs.Tells.{test-passed}
 use Rattle.unstuffing.specs.Unstuff.{unitBytes}
 use Rattle.unstuffing.specs.Private.{kept}
-use Rattle.unstuffing.proofs.Proper.{units, unstuff-proper, length-units}
+use Rattle.unstuffing.proofs.Proper.{units, unstuff-proper, length-units, kept-most}
 use Rattle.checking.specs.declared.Head.{Head}
 use Rattle.checking.specs.Rule.{headOf}
 use Rattle.checking.proofs.Checked.{Checked, checked, got}
 use Rattle.checking.proofs.Located.{Located, located}
 use Rattle.frame.specs.Wire.{Fields}
-use Rattle.frame.specs.Rule.{checkRule, roomRule, parseRule}
+use Rattle.frame.specs.Rule.{checkRule, roomRule, parseRule, payloadTold, copyRule}
 use Rattle.frame.specs.Private.{raw, slots}
+use Rattle.frame.proofs.Cases.{parse-refused, parse-fits}
 use Rattle.frame.proofs.Walking.{raw-proper, slots-proper}
 
 pub parsed : (w : List ℕ) (room : ℕ) (f : Fields) → parseRule w room ≡ yes f → (Checked w f) × (length (f .payload) ≤ room)
@@ -73,3 +74,29 @@ held-yes (no k vs) w h e g = let z : _≡_ {A = ℕ} 0 1 = cc in absurd (let q :
 
 pub held : (w : List ℕ) (h : Head) → yes h ≡ onYes (headOf w) (checkRule w) → Held w h
 held w h e = held-yes (checkRule w) w h refl e
+
+-- ---- a buffer as long as the wire has room for its payload
+
+payload-within : (w : List ℕ) (f : Fields) → checkRule w ≡ yes f → length (f .payload) ≤ length w
+payload-within w f e =
+    let h = held-by w f e (located w f (checked w f e)) in
+    let n = headOf w f .to - headOf w f .from in
+    omega (arith, h .count, kept-most (partOf w (headOf w f)), length-take n (drop (headOf w f .from) w), h .inside)
+
+parsed-alike : (w : List ℕ) (room : ℕ) (t : Told Fields) → checkRule w ≡ t → length w ≤ room → parseRule w room ≡ t
+parsed-alike w room (yes f) e l = parse-fits w room f e (omega (arith, payload-within w f e))
+parsed-alike w room (no k vs) e l = parse-refused w room k vs e
+
+pub room-of-wire : (w : List ℕ) (room : ℕ) → length w ≤ room → parseRule w room ≡ checkRule w
+room-of-wire w room l = parsed-alike w room (checkRule w) refl l
+
+-- ---- the length that is told of a copy is within the buffer, so that its front may be taken
+
+within-if : (w : List ℕ) (room n : ℕ) (t : Told Fields) → parseRule w room ≡ t → yes n ≡ onYes length (payloadTold t) → n ≤ room
+within-if w room n (yes f) e q =
+    let z : length (f .payload) ≡ n = cc in
+    rw z at (parsed w room f e .1)
+within-if w room n (no k vs) e q = let z : _≡_ {A = ℕ} 0 1 = cc in absurd (let y : ⊥ = omega arith in y)
+
+pub copied-within : (w : List ℕ) (room n : ℕ) → yes n ≡ onYes length (copyRule w room) → n ≤ room
+copied-within w room n e = within-if w room n (parseRule w room) refl e

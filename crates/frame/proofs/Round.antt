@@ -1,5 +1,5 @@
--- Parsing a frame's wire gives its fields back, in any room that its payload fits; so parsing what encoding wrote does.
--- `round-trip` is that law, stated by the rules that the two contracts cite.
+-- A frame's wire opens to its header and copies to its payload, in any room that the payload fits; so does what encoding wrote.
+-- `open-back` and `copy-back` are that law, stated by the rules that the contracts cite.
 use mathlib.Core.Path.{_≡_, refl, sym, ap, _∙_}
 use mathlib.Core.List.{List, [], _∷_, _++_}
 use Prim.Native.Nat.{ℕ, _+_, _-_, _*_, _/_, _%_, _≤_}
@@ -14,9 +14,9 @@ use Rattle.unstuffing.specs.Unstuff.{unstuff, byteAt, offsetAt}
 use Rattle.stuffing.proofs.Stuffing.{stuff-append, stuff-least}
 use Rattle.unstuffing.proofs.Unstuffing.{placed, unstuff-stuff, bytes-placed, length-placed, offset-placed}
 use Rattle.frame.specs.Wire.{Fields, fields, bodyOf, checksumOf, wireOf}
-use Rattle.frame.specs.Rule.{encodeRule, interior, receivedOf, computedOf, payloadOf, unitsRule, checkRule, parseRule}
+use Rattle.frame.specs.Rule.{encodeRule, interior, receivedOf, computedOf, payloadOf, unitsRule, checkRule, headerOf, openRule, copyRule}
 use Rattle.checking.proofs.Cases.{framed, many, matching, both-known}
-use Rattle.frame.proofs.Cases.{parse-fits}
+use Rattle.frame.proofs.Cases.{opens, copies}
 use Rattle.frame.proofs.Wires.{head, text, wire-is, written-is}
 
 interior-is : (m : List ℕ) → interior (0xF0 ∷ (m ++ (0xF1 ∷ []))) ≡ m
@@ -75,9 +75,10 @@ module _ (f : Fields) where
       ∙ ap (λ (x : Told (List (ℕ × ℕ))). andThen x (unitsRule (length w) (interior w))) (ap (unstuff 0) (interior-is m) ∙ unstuff-stuff 0 (text f))
       ∙ units-checked (length w) (interior w) (interior-is m)
 
-  pub wire-parsed : (room : ℕ) → length (f .payload) ≤ room → parseRule (wireOf f) room ≡ yes f
-  wire-parsed room h = parse-fits (wireOf f) room f wire-checked h
+  -- encode, then open
+  pub open-back : {w : List ℕ} (room-out : ℕ) → encodeRule f room-out ≡ yes w → openRule w ≡ yes (headerOf f)
+  open-back room-out e = rw (written-is f room-out e) (opens (wireOf f) f wire-checked)
 
-  -- encode, then parse
-  pub round-trip : {w : List ℕ} (room-out room-in : ℕ) → encodeRule f room-out ≡ yes w → length (f .payload) ≤ room-in → parseRule w room-in ≡ yes f
-  round-trip room-out room-in e h = rw (written-is f room-out e) (wire-parsed room-in h)
+  -- encode, then copy
+  pub copy-back : {w : List ℕ} (room-out room-in : ℕ) → encodeRule f room-out ≡ yes w → length (f .payload) ≤ room-in → copyRule w room-in ≡ yes (f .payload)
+  copy-back room-out room-in e h = rw (written-is f room-out e) (copies (wireOf f) room-in f wire-checked h)

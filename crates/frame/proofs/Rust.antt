@@ -1,24 +1,23 @@
--- Parsing is the Rust's, read as the Rust's, but for the room that a caller lends (8); so is whatever `RawFrame::parse` answers,
--- by its contract as the check reads it off src/ (`Post`). Where it refuses a wire for an escape is where checking does.
+-- Parsing is the Rust's, read as the Rust's, but for the room that a caller lends (8); so is whatever `RawFrame::open` and `copy_payload`
+-- answer, by their contracts as the check reads them off src/ (`Post`). What either refuses, but for room, checking refuses.
 use mathlib.Core.Path.{_≡_, refl, ap, _∙_}
 use mathlib.Core.Bool.{false}
-use mathlib.Core.List.{List, [], _∷_}
+use mathlib.Core.List.{List}
 use Prim.Native.Nat.{ℕ}
 use lib.Dec.{eqb, ltb}
 use lib.ListN.{length}
 use Rattle.general.proofs.Cases.{by-test}
 use Rattle.error.specs.Refusal.{Told, no, onYes, andThen}
+use Rattle.error.specs.Result.{toldUsize}
 use Rattle.error.specs.Rust.{asRust}
-use Rattle.error.proofs.Tells.{isTold, told-before}
+use Rattle.error.proofs.Tells.{isTold, told-before, part-refused}
 use Rattle.error.proofs.Rust.{read-part, read-then}
-use Rattle.checking.specs.Wrong.{CutOff, WrongCode}
 use Rattle.checking.specs.Rust.{rustParse}
 use Rattle.checking.proofs.Rust.{check-as-rust}
-use Rattle.checking.proofs.Wrong.{cut-off-told, told-cut-off, wrong-code-told, told-wrong-code}
 use Rattle.frame.specs.Wire.{Fields}
-use Rattle.frame.specs.Rule.{checkRule, roomRule, parseRule, headerOf, toldRawFrame}
-use Rattle.frame.proofs.Cases.{parse-refused}
-use Rattle.frame.proofs.RawFrame.parse.Reads as parse
+use Rattle.frame.specs.Rule.{checkRule, roomRule, parseRule, headerOf, openRule, payloadTold, copyRule, toldRawFrame}
+use Rattle.frame.proofs.RawFrame.open.Reads as opening
+use Rattle.frame.proofs.RawFrame.copy_payload.Reads as copying
 
 -- for room only 8 is told
 room-tells : (n : ℕ) → eqb 8 n ≡ false → (room : ℕ) (f : Fields) → isTold n (roomRule room f) ≡ false
@@ -29,28 +28,25 @@ unfolding parseRule
 parse-as-rust w room =
     read-then (checkRule w) (roomRule room) (room-tells 12 refl room) ∙ ap (λ (t : Told Fields). andThen t (roomRule room)) (check-as-rust w)
 
-pub parsed-as-rust : (κs a r x : _) → parse.Post κs a r x
-    → asRust (toldRawFrame r) ≡ onYes headerOf (andThen (rustParse (a .0 .now)) (roomRule (length (a .1 .0 .now))))
-parsed-as-rust κs a r x p =
+pub opened-as-rust : (κs a r x : _) → opening.Post κs a r x → asRust (toldRawFrame r) ≡ onYes headerOf (rustParse (a .0 .now))
+opened-as-rust κs a r x p =
     let w = a .0 .now in
+    ap asRust p ∙ read-part headerOf (checkRule w) ∙ ap (onYes headerOf) (check-as-rust w)
+
+pub copied-as-rust : (κs a r x : _) → copying.Post κs a r x
+    → asRust (toldUsize r) ≡ onYes length (payloadTold (andThen (rustParse (a .0 .now)) (roomRule (length (a .1 .0 .now)))))
+copied-as-rust κs a r x p =
     let room = length (a .1 .0 .now) in
-    ap asRust (p .0) ∙ read-part headerOf (parseRule w room) ∙ ap (onYes headerOf) (parse-as-rust w room)
+    ap asRust (p .0)
+    ∙ read-part length (copyRule (a .0 .now) room)
+    ∙ ap (onYes length) (read-part (λ f. f .payload) (parseRule (a .0 .now) room) ∙ ap payloadTold (parse-as-rust (a .0 .now) room))
 
--- ---- 12 and 4, whatever the room
+-- ---- what either refuses, but for room, checking refuses (the converse: `refused-alike`); so 12 and 4 are told where checking tells them
 
-module _ (w : List ℕ) (room : ℕ) where
-  checked-so : (k : ℕ) (vs : List ℕ) → eqb 8 k ≡ false → parseRule w room ≡ no k vs → checkRule w ≡ no k vs
-  unfolding parseRule
-  checked-so k vs not-8 e = told-before (checkRule w) (roomRule room) k vs (room-tells k not-8 room) e
+pub open-refused : (w : List ℕ) (k : ℕ) (vs : List ℕ) → openRule w ≡ no k vs → checkRule w ≡ no k vs
+open-refused w k vs e = part-refused headerOf (checkRule w) k vs e
 
-  pub cut-off-parsed : (o : ℕ) → CutOff w o → parseRule w room ≡ no 12 (o ∷ [])
-  cut-off-parsed o c = parse-refused w room 12 (o ∷ []) (cut-off-told w o c)
-
-  pub parsed-cut-off : (o : ℕ) → parseRule w room ≡ no 12 (o ∷ []) → CutOff w o
-  parsed-cut-off o e = told-cut-off w o (checked-so 12 (o ∷ []) refl e)
-
-  pub wrong-code-parsed : (o c : ℕ) → WrongCode w o c → parseRule w room ≡ no 4 (c ∷ o ∷ [])
-  wrong-code-parsed o c f = parse-refused w room 4 (c ∷ o ∷ []) (wrong-code-told w o c f)
-
-  pub parsed-wrong-code : (o c : ℕ) → parseRule w room ≡ no 4 (c ∷ o ∷ []) → WrongCode w o c
-  parsed-wrong-code o c e = told-wrong-code w o c (checked-so 4 (c ∷ o ∷ []) refl e)
+pub copy-refused : (w : List ℕ) (room k : ℕ) (vs : List ℕ) → eqb 8 k ≡ false → copyRule w room ≡ no k vs → checkRule w ≡ no k vs
+unfolding parseRule
+copy-refused w room k vs not-8 e =
+    told-before (checkRule w) (roomRule room) k vs (room-tells k not-8 room) (part-refused (λ f. f .payload) (andThen (checkRule w) (roomRule room)) k vs e)

@@ -51,9 +51,8 @@ fn show(hold: &mut [u8], first: &[u8], second: &[u8]) {
 }
 
 fn piece(session: Session, hold: &mut [u8], chunk: &[u8]) -> Session {
-    let mut payload = [0u8; 2048];
     let mut lines = io::large_buffer();
-    let ran = session.piece(hold, &mut payload, chunk, &mut lines);
+    let ran = session.piece(hold, chunk, &mut lines);
     let reply = ran.reply;
     io::write_all(libc::STDOUT_FILENO, session::text_of(reply, &lines));
     ran.session

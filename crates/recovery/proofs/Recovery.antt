@@ -17,7 +17,7 @@ use Rattle.stream.proofs.Calls.{stands-fresh}
 use Rattle.stream.proofs.Stream.{Plain, Follows, follows, spoken, answers-heard}
 use Rattle.stream.proofs.Rust.{line-says}
 use Rattle.stream.proofs.Ends.{feeds-calls}
-use Rattle.frame.proofs.Round.{round-trip}
+use Rattle.frame.proofs.Round.{open-back, copy-back}
 use Rattle.frame.proofs.Wires.{Framed}
 use Rattle.recovery.specs.Recovery.{Sent, wires, pending, answersFor, InOrder, end, then, HandedOver, Condition3}
 use Rattle.recovery.proofs.Upto.{Upto, upto, said-as, past}
@@ -97,7 +97,8 @@ recovered {h} {k} {s} {t} noise f fs rest c =
       later = u .later;
       others = in-order fs rest (u .later) (u .plain) (u .hears) (u .rest);
       calls = p .calls ∙ ap (λ (x : List Call). p .noisy ++ x) (u .calls);
-      parses = λ g room. round-trip (g .fields) (g .room) room (g .written);
+      opens = λ g. open-back (g .fields) (g .room) (g .written);
+      copies = λ g room. copy-back (g .fields) (g .room) room (g .written);
     }
 
 pub condition-3 : Condition3

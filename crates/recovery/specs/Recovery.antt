@@ -8,7 +8,7 @@ use lib.ListN.{length}
 use lib.Dec.{eqb}
 use Rattle.error.specs.Refusal.{yes}
 use Rattle.frame.specs.Wire.{Fields}
-use Rattle.frame.specs.Rule.{encodeRule, parseRule}
+use Rattle.frame.specs.Rule.{encodeRule, headerOf, openRule, copyRule}
 use Rattle.search.specs.First.{has}
 use Rattle.splitter.specs.declared.FrameSplitter.{FrameSplitter}
 use Rattle.splitter.specs.Feed.{frame, new}
@@ -71,8 +71,10 @@ pub record HandedOver {H : ℕ} (noise : List ℕ) (f : Sent H) (fs : List (Sent
   pub others : InOrder rest fs later
   -- these are all calls
   pub calls : t ≡ noisy ++ (first ++ later)
-  -- "Each then parses to the fields it was written from, given room for its payload."
-  pub parses : (g : Sent H) (room : ℕ) → length (g .fields .payload) ≤ room → parseRule (g .wire) room ≡ yes (g .fields)
+  -- "Each then parses to the fields it was written from, given room for its payload." Request 9 made parsing two operations:
+  -- it opens to its header and its payload's length, and copies to its payload
+  pub opens : (g : Sent H) → openRule (g .wire) ≡ yes (headerOf (g .fields))
+  pub copies : (g : Sent H) (room : ℕ) → length (g .fields .payload) ≤ room → copyRule (g .wire) room ≡ yes (g .fields .payload)
 
 -- ---- the condition
 

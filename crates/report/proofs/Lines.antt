@@ -70,7 +70,7 @@ mark-length false = sym (length-small 0 (lit< tt))
 pub end-length : (k : ℕ) (mark : Bool) → length (decimalOf k) + 7 ≡ length (endText k mark)
 end-length k mark = rw (← end-parts k mark) (simp length-append (omega (arith, mark-length mark)))
 
--- how long the words are that say what parsing said
+-- how long the words are that say what opening a frame said
 pub ok-width : (f : RawFrame) → length (decimalOf (f .len)) + 13 ≡ length (spaced (resultWords (yes f)))
 unfolding hexOf
 ok-width f = simp length-append (omega arith)

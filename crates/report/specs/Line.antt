@@ -29,7 +29,7 @@ abbrev pub resultWords : Told RawFrame → List (List ℕ)
 resultWords (yes f) = (0x4F ∷ 0x4B ∷ []) ∷ fieldWords f
 resultWords (no k vs) = (0x4E ∷ 0x4F ∷ []) ∷ decimalOf k ∷ map decimalOf vs
 
--- event number, wire length, and what parsing said
+-- event number, wire length, and what opening it said
 unfoldable pub frameText : ℕ → ℕ → Told RawFrame → List ℕ
 frameText n len told = lineOf (decimalOf n) (decimalOf len ∷ resultWords told)
 

@@ -20,19 +20,19 @@ use error::WireError;
 use frame::ResultRawFrame;
 
 // A frame's line: `N LEN OK DEST SRC TYPE P`, or `N LEN NO` with the refusal's number and values.
-pub fn frame_line(number: u64, len: usize, parsed: ResultRawFrame, out: &mut [u8]) -> ResultUsize
-    ensures { λ r. ⌜ Lined (frameText number len (toldRawFrame parsed)) (now (out .entry)) (toldUsize r) (now (out .exit)) ⌝ }
+pub fn frame_line(number: u64, len: usize, opened: ResultRawFrame, out: &mut [u8]) -> ResultUsize
+    ensures { λ r. ⌜ Lined (frameText number len (toldRawFrame opened)) (now (out .entry)) (toldUsize r) (now (out .exit)) ⌝ }
 {
     let number_width = digits(number);
     let len_width = digits(len as u64);
-    let need = number_width + len_width + said_width(parsed) + 2;
+    let need = number_width + len_width + said_width(opened) + 2;
     let got = out.len();
     if got < need {
         return ResultUsize::Err(WireError::NoRoom { need, got });
     }
     let at = put_decimal(number, number_width, out, 0);
     let at = put_number(len as u64, len_width, out, at);
-    let at = put_said(parsed, out, at);
+    let at = put_said(opened, out, at);
     out[at] = b'\n';
     ResultUsize::Ok(need)
 }

@@ -1,4 +1,4 @@
-// The words of what parsing said, each with a space before it: how long they are, and put at a place of a lent buffer.
+// The words of what opening a frame said, each with a space before it: how long they are, and put at a place of a lent buffer.
 // `OK` with a frame's fields, or `NO` with a refusal's number and values.
 ghost use mathlib.Core.Path.{_≡_};
 ghost use mathlib.Core.List.{map};
@@ -17,22 +17,22 @@ use error::WireError;
 use frame::RawFrame;
 use frame::ResultRawFrame;
 
-// How long the words of what parsing said are, each with a space before it.
-pub(crate) fn said_width(parsed: ResultRawFrame) -> usize
-    ensures { λ r. ⌜ (r ≡ length (spaced (resultWords (toldRawFrame parsed)))) × (r ≤ 70) ⌝ }
+// How long the words of what opening a frame said are, each with a space before it.
+pub(crate) fn said_width(opened: ResultRawFrame) -> usize
+    ensures { λ r. ⌜ (r ≡ length (spaced (resultWords (toldRawFrame opened)))) × (r ≤ 70) ⌝ }
 {
-    match parsed {
+    match opened {
         ResultRawFrame::Ok(frame) => digits(frame.len as u64) + 13,
         ResultRawFrame::Err(e) => digits(e.number() as u64) + values_width(e) + 4,
     }
 }
 
-// The words of what parsing said, each with a space before it.
-pub(crate) fn put_said(parsed: ResultRawFrame, out: &mut [u8], at: usize) -> usize
-    requires { ⌜ at + length (spaced (resultWords (toldRawFrame parsed))) ≤ length (now out) ⌝ }
-    ensures { λ r. ⌜ Put (spaced (resultWords (toldRawFrame parsed))) (now (out .entry)) at r (now (out .exit)) ⌝ }
+// The words of what opening a frame said, each with a space before it.
+pub(crate) fn put_said(opened: ResultRawFrame, out: &mut [u8], at: usize) -> usize
+    requires { ⌜ at + length (spaced (resultWords (toldRawFrame opened))) ≤ length (now out) ⌝ }
+    ensures { λ r. ⌜ Put (spaced (resultWords (toldRawFrame opened))) (now (out .entry)) at r (now (out .exit)) ⌝ }
 {
-    match parsed {
+    match opened {
         ResultRawFrame::Ok(frame) => {
             let at = put_text(b" OK", out, at);
             put_fields(frame, out, at)

@@ -14,7 +14,7 @@ use Rattle.splitter.specs.Feed.{Given, toldEvent}
 use Rattle.splitter.specs.Feed.{givenBy}
 use Rattle.stream.specs.Stream.{Said, saidOf}
 use Rattle.session.specs.Lines.{lineTo, numberTo}
-use Rattle.session.specs.Piece.{Stage, stage, fed, said, payloadTo}
+use Rattle.session.specs.Piece.{Stage, stage, fed, said}
 use Rattle.session.specs.Private.{countOf, Wrote, Stepped, stepOf}
 
 pub wrote : (text old : List ℕ) (told : Told ℕ) (new : List ℕ) → Lined text old told new → 128 ≤ length old → Wrote text old (countOf told) new
@@ -32,14 +32,13 @@ wrote text old told new l h =
 pub stepped :
     (t : Stage) (c out : List ℕ) (f : Fed) (h′ : List ℕ) → givenBy f h′ ≡ fed t c
     → (a : Said) → saidOf c h′ (toldEvent (f .event)) ≡ a
-    → (w : ℕ) (p′ new : List ℕ) → p′ ≡ payloadTo (t .payload) a → Wrote (lineTo (length (t .payload)) (t .session .number) a) out w new
-    → Stepped t c out (stepOf (f .splitter) (numberTo (t .session .number) a) (f .taken) w) h′ p′ new
-stepped t c out f h′ e a s w p′ new k l =
+    → (w : ℕ) (new : List ℕ) → Wrote (lineTo (t .session .number) a) out w new
+    → Stepped t c out (stepOf (f .splitter) (numberTo (t .session .number) a) (f .taken) w) h′ new
+stepped t c out f h′ e a s w new l =
     let q : a ≡ said t c = sym s ∙ ap (λ (g : Given). saidOf c (g .hold) (g .answer)) e in
     record {
       taken = ap (λ (g : Given). g .taken) e;
-      after =
-          λ i. stage (record { splitter = e i .state; number = numberTo (t .session .number) (q i) }) (e i .hold) ((k ∙ ap (payloadTo (t .payload)) q) i);
+      after = λ i. stage (record { splitter = e i .state; number = numberTo (t .session .number) (q i) }) (e i .hold);
       line = rw q at l;
     }
 

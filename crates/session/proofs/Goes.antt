@@ -1,4 +1,4 @@
--- There are calls as a run of the program has them (specs/Program), from fresh, whatever the pieces and the two buffers are.
+-- There are calls as a run of the program has them (specs/Program), from fresh, whatever the pieces and the hold buffer are.
 -- So the theorems of proofs/Printed are about something.
 use Prim.Native.Nat.{ℕ, zero, suc, _≤_}
 use mathlib.Core.List.{List, [], _∷_}
@@ -29,8 +29,8 @@ goes-on t (c ∷ cs) v s =
     let next = still-stands (length c) t c v s in
     let rest = goes-on (w .stage) cs (next .0) (next .1) in
     let r : Ran = record { reply = Ok (length (w .text)); session = w .stage .session } in
-    let call = piece out r (w .stage .hold) (w .stage .payload) (filled (yes (w .text)) out) room (piece-fits t c out (stands-good s) room) (rest .1 .1) in
+    let call = piece out r (w .stage .hold) (filled (yes (w .text)) out) room (piece-fits t c out (stands-good s) room) (rest .1 .1) in
     (_, (rest .1 .0, call))
 
-pub goes : (h p : List ℕ) (cs : List (List ℕ)) → (text : List ℕ) × ((t : Stage) × Pieces (first h p) cs text t)
-goes h p cs = goes-on (first h p) cs [] (stands-fresh new h)
+pub goes : (h : List ℕ) (cs : List (List ℕ)) → (text : List ℕ) × ((t : Stage) × Pieces (first h) cs text t)
+goes h cs = goes-on (first h) cs [] (stands-fresh new h)

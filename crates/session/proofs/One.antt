@@ -11,15 +11,14 @@ use Rattle.session.proofs.text_of.Reads as text-of
 pub one-new : (κs a r s x y : _) → new.Post κs a r x → new.Post κs a s y → r ≡ s
 one-new κs a r s x y = plain
 
--- the reply and the session, then the bytes of the hold buffer, the payload buffer and the buffer of lines
+-- the reply and the session, then the bytes of the hold buffer and of the buffer of lines
 pub one-piece : (κs a r s x y : _) → piece.Post κs a r x → piece.Post κs a s y
-    → (r ≡ s) × (x .1 .0 .now ≡ y .1 .0 .now) × (x .1 .1 .0 .now ≡ y .1 .1 .0 .now) × (x .1 .1 .1 .1 .0 .now ≡ y .1 .1 .1 .1 .0 .now)
+    → (r ≡ s) × (x .1 .0 .now ≡ y .1 .0 .now) × (x .1 .1 .1 .0 .now ≡ y .1 .1 .1 .0 .now)
 one-piece κs a r s x y p q =
     let same = plain p q in
     let reply = one-usize (ap (λ (d : Done). d .reply) same) refl in (
       λ i. record { reply = reply i; session = same i .stage .session },
       ap (λ (d : Done). d .stage .hold) same,
-      ap (λ (d : Done). d .stage .payload) same,
       ap (λ (d : Done). d .out) same,
     )
 

@@ -45,7 +45,6 @@ module _ (t₀ : Stage) (c out₀ : List ℕ) where
     pub few : written ≤ 128 * at
     pub good : isBad (t .session .splitter) (length (t .hold)) ≡ false
     pub held : length (t .hold) ≡ length (t₀ .hold)
-    pub kept : length (t .payload) ≡ length (t₀ .payload)
 
   pub going : isBad (t₀ .session .splitter) (length (t₀ .hold)) ≡ false → Going t₀ 0 0 out₀
   going good =
@@ -60,7 +59,6 @@ module _ (t₀ : Stage) (c out₀ : List ℕ) where
         few = omega arith;
         good = good;
         held = refl;
-        kept = refl;
       }
 
   module _ (room : 128 * length c ≤ length out₀) {t : Stage} {at written : ℕ} {out : List ℕ} (g : Going t at written out) where
@@ -79,7 +77,7 @@ module _ (t₀ : Stage) (c out₀ : List ℕ) where
     back : drop written out ≡ drop (length (g .text)) out₀
     back = rw (g .bytes) (drop-at (g .text) (drop (length (g .text)) out₀) written (sym (g .count)))
 
-    module _ (h : at < length c) {r : Step} {hold payload new : List ℕ} (s : Stepped t (drop at c) (drop written out) r hold payload new) where
+    module _ (h : at < length c) {r : Step} {hold new : List ℕ} (s : Stepped t (drop at c) (drop written out) r hold new) where
       some : 0 < length (drop at c)
       some = simp length-drop (omega arith)
 
@@ -92,7 +90,7 @@ module _ (t₀ : Stage) (c out₀ : List ℕ) where
           omega arith
 
       abbrev later : ℕ → Work
-      later k = works k (stage (r .session) hold payload) (drop (at + r .taken) c)
+      later k = works k (stage (r .session) hold) (drop (at + r .taken) c)
 
       more : (k : ℕ) → g .calls ≡ suc k → works (length c) t₀ c ≡ behind (g .text ++ eventText t (drop at c)) (later k)
       more k e =
@@ -116,11 +114,11 @@ module _ (t₀ : Stage) (c out₀ : List ℕ) where
           rw (none, append-nil, front, s .line .bytes, back, drop-drop (length x) (length (g .text)) out₀, length-append, append-assoc)
 
       pub goes-on :
-          (k : ℕ) → length out ≤ written + k → length hold ≡ length (t .hold) → length payload ≡ length (t .payload)
-          → Going (stage (r .session) hold payload) (at + r .taken) (written + r .written) (back-in k)
-      goes-on k l eh ep = with-calls (g .calls) refl
+          (k : ℕ) → length out ≤ written + k → length hold ≡ length (t .hold)
+          → Going (stage (r .session) hold) (at + r .taken) (written + r .written) (back-in k)
+      goes-on k l eh = with-calls (g .calls) refl
         where
-          with-calls : (n : ℕ) → g .calls ≡ n → Going (stage (r .session) hold payload) (at + r .taken) (written + r .written) (back-in k)
+          with-calls : (n : ℕ) → g .calls ≡ n → Going (stage (r .session) hold) (at + r .taken) (written + r .written) (back-in k)
           with-calls zero e = absurd (let q : ⊥ = omega (arith, g .enough) in q)
           with-calls (suc m) e =
               let x = eventText t (drop at c) in
@@ -136,7 +134,6 @@ module _ (t₀ : Stage) (c out₀ : List ℕ) where
                 few = omega (arith, g .few, s .line .count, s .line .short, moves);
                 good = rw (eh, ap (λ (y : Stage). y .session .splitter) (s .after)) (good-after (t .session .splitter) (t .hold) (drop at c) (g .good));
                 held = eh ∙ g .held;
-                kept = ep ∙ g .kept;
               }
 
   -- all is taken

@@ -6,15 +6,11 @@ use mathlib.Core.Bool.{false}
 use mathlib.Core.List.{List, [], _∷_, _++_, map, append-assoc}
 use native.Mathlib.Nat.{not-suc-le-zero}
 use native.Mathlib.Omega.{arith}
-use lib.Dec.{ltb}
 use lib.ListN.{length, drop, length-append, length-drop}
 use lib.Seq.{take-append-seam}
-use borrow.Author.Tests.{ltb-false, le-leb, lt-leb}
-use Rattle.error.specs.Refusal.{Told, yes, no, onYes, filled, andThen}
+use borrow.Author.Tests.{le-leb, lt-leb}
+use Rattle.error.specs.Refusal.{Told, yes, no, onYes, filled}
 use Rattle.error.specs.Result.{toldUsize}
-use Rattle.general.proofs.Cases.{by-test}
-use Rattle.frame.specs.Wire.{Fields}
-use Rattle.frame.specs.Rule.{checkRule, roomRule, parseRule}
 use Rattle.splitter.specs.declared.FrameSplitter.{FrameSplitter}
 use Rattle.splitter.specs.Feed.{Given, new, toldEvent, isBad, more, overlong, frame}
 use Rattle.stream.specs.Stream.{Said, saidOf, Call, Calls, Feeds, joined, unlessMore, answers, answerTo}
@@ -28,33 +24,18 @@ use Rattle.stream.proofs.Rust.{as-the-rust, line-leaves}
 use Rattle.report.specs.Line.{endText, fitted, Lined}
 use Rattle.session.specs.declared.Ran.{Ran}
 use Rattle.session.specs.Lines.{lineTo, numberTo, linesOf, endTo}
-use Rattle.session.specs.Piece.{Stage, stage, fed, said, payloadTo, stageAfter, eventText}
+use Rattle.session.specs.Piece.{Stage, stage, fed, said, stageAfter, eventText}
 use Rattle.session.specs.Piece.{Work, work, behind, works, roomFor, Done, pieceRule, frontOf, doneBy}
 use Rattle.session.specs.Program.{first, Pieces, Run}
 use Rattle.session.specs.Program as program
 use Rattle.session.proofs.Rules.{piece-fits}
 
--- the payload buffer keeps its length: a payload that is answered fits it
-sized : (p : List ℕ) (x : Told Fields) → length (filled (onYes (λ (f : Fields). f .payload) (andThen x (roomRule (length p)))) p) ≡ length p
-sized p (no k vs) = refl
-sized p (yes f) =
-    by-test (ltb (length p) (length (f .payload)))
-    (λ e. rw e)
-    (λ e. let l = ltb-false (length p) (length (f .payload)) e in rw e (simp (length-append, length-drop) (omega arith)))
-
-payload-size : (p : List ℕ) (a : Said) → length (payloadTo p a) ≡ length p
-unfolding parseRule
-payload-size p (yes more) = refl
-payload-size p (yes overlong) = refl
-payload-size p (yes (frame w)) = sized p (checkRule w)
-payload-size p (no k vs) = refl
-
 -- an answer's line, in front of those of the answers after it
-said-first : (m n : ℕ) (a : Said) (l : List Said) → lineTo m n a ++ linesOf m (numberTo n a) l ≡ linesOf m n (unlessMore a ++ l)
-said-first m n (yes more) l = refl
-said-first m n (yes overlong) l = refl
-said-first m n (yes (frame w)) l = refl
-said-first m n (no k vs) l = refl
+said-first : (n : ℕ) (a : Said) (l : List Said) → lineTo n a ++ linesOf (numberTo n a) l ≡ linesOf n (unlessMore a ++ l)
+said-first n (yes more) l = refl
+said-first n (yes overlong) l = refl
+said-first n (yes (frame w)) l = refl
+said-first n (no k vs) l = refl
 
 -- ---- what is read back from a buffer of lines
 
@@ -72,12 +53,12 @@ line-shown {text} {old} l h =
     let b = l .bytes ∙ ap (λ (x : Told (List ℕ)). filled x old) f in
     (λ i. frontOf (r i) (b i)) ∙ front text (drop (length text) old)
 
--- A piece that is not refused: what is read back are its lines, and the session and the two buffers at exit are where the work ends.
+-- A piece that is not refused: what is read back are its lines, and the session and the hold buffer at exit are where the work ends.
 pub piece-does :
-    (t : Stage) (c out : List ℕ) (r : Ran) (h p out′ : List ℕ) → doneBy r h p out′ ≡ pieceRule t c out
+    (t : Stage) (c out : List ℕ) (r : Ran) (h out′ : List ℕ) → doneBy r h out′ ≡ pieceRule t c out
     → isBad (t .session .splitter) (length (t .hold)) ≡ false → roomFor (length c) ≤ length out
-    → (frontOf (toldUsize (r .reply)) out′ ≡ works (length c) t c .text) × (stage (r .session) h p ≡ works (length c) t c .stage)
-piece-does t c out r h p out′ e good room =
+    → (frontOf (toldUsize (r .reply)) out′ ≡ works (length c) t c .text) × (stage (r .session) h ≡ works (length c) t c .stage)
+piece-does t c out r h out′ e good room =
     let q = e ∙ sym (piece-fits t c out good room) in
     let text = works (length c) t c .text in
     ((λ i. frontOf (q i .reply) (q i .out)) ∙ front text (drop (length text) out), ap (λ (d : Done). d .stage) q)
@@ -88,7 +69,7 @@ piece-does t c out r h p out′ e good room =
 record Traced (t : Stage) (cs : List (List ℕ)) (w : Work) : Type 0 where
   trace : List Call
   feeds : Feeds (t .session .splitter) (t .hold) cs trace (w .stage .session .splitter) (w .stage .hold)
-  text : w .text ≡ linesOf (length (t .payload)) (t .session .number) (answers trace)
+  text : w .text ≡ linesOf (t .session .number) (answers trace)
 
 -- what comes after a piece, wherever the work then stands
 abbrev After : Stage → List (List ℕ) → Work → Type 0
@@ -114,7 +95,6 @@ one-piece (suc k) t (b ∷ c) cs w v s l rest =
     in
     let e = allowed (t .session .splitter) (t .hold) d in
     let q : saidOf d (g .hold) (toldEvent (fedOf g .event)) ≡ said t d = ap (λ (x : Given). saidOf d (g .hold) (x .answer)) e in
-    let m = length (t .payload) in
     let n = t .session .number in
     record {
       trace = _;
@@ -122,22 +102,21 @@ one-piece (suc k) t (b ∷ c) cs w v s l rest =
       text =
           append-assoc (eventText t d) (works k t′ (drop (g .taken) d) .text) (w .text)
           ∙ ap (λ (x : List ℕ). eventText t d ++ x) (r .text)
-          ∙ ap (λ (x : ℕ). eventText t d ++ linesOf x (numberTo n (said t d)) (answers (r .trace))) (payload-size (t .payload) (said t d))
-          ∙ said-first m n (said t d) (answers (r .trace))
-          ∙ ap (λ (x : Said). linesOf m n (unlessMore x ++ answers (r .trace))) (sym q);
+          ∙ said-first n (said t d) (answers (r .trace))
+          ∙ ap (λ (x : Said). linesOf n (unlessMore x ++ answers (r .trace))) (sym q);
     }
 
 traced : {t t′ : Stage} {cs : List (List ℕ)} {text : List ℕ} → Pieces t cs text t′ → After t cs (work text t′)
 traced program.Pieces.done v s = record { trace = []; feeds = stream.Feeds.done; text = refl }
-traced {t} {t′} (program.Pieces.piece {c = c} {cs = cs} {text = text} out r h p out′ room e rest) v s =
-    let d = piece-does t c out r h p out′ e (stands-good s) room in
+traced {t} {t′} (program.Pieces.piece {c = c} {cs = cs} {text = text} out r h out′ room e rest) v s =
+    let d = piece-does t c out r h out′ e (stands-good s) room in
     let after : After (works (length c) t c .stage) cs (work text t′) = subst (λ (y : Stage). After y cs (work text t′)) (d .1) (λ v′ s′. traced rest v′ s′) in
     rw (d .0) (one-piece (length c) t c cs (work text t′) v s (omega arith) after)
 
 -- ---- the theorems
 
-module _ {h p : List ℕ} {cs : List (List ℕ)} {text : List ℕ} {t : Stage} (c : Pieces (first h p) cs text t) where
-  traces : Traced (first h p) cs (work text t)
+module _ {h : List ℕ} {cs : List (List ℕ)} {text : List ℕ} {t : Stage} (c : Pieces (first h) cs text t) where
+  traces : Traced (first h) cs (work text t)
   traces = traced c [] (stands-fresh new h)
 
   calls : Calls new h (joined cs) (traces .trace) (t .session .splitter) (t .hold)
@@ -149,20 +128,20 @@ stands-end (fits l n m k) = rw (le-leb _ _ l, n, m)
 stands-end (long l n m) = rw (lt-leb _ _ l, n, m)
 
 -- H is the hold buffer's length; the Rust is fed the same bytes, cut in any other way
-pub prints : {h p : List ℕ} {cs : List (List ℕ)} {printed : List ℕ} (ds : List (List ℕ)) → joined cs ≡ joined ds → Run h p cs printed
-    → printed ≡ linesOf (length p) 0 (map (answerTo (length h)) (rustFrames [] ds)) ++ endTo (length h) (rustLeft [] ds)
-prints {h} {p} ds e r =
+pub prints : {h : List ℕ} {cs : List (List ℕ)} {printed : List ℕ} (ds : List (List ℕ)) → joined cs ≡ joined ds → Run h cs printed
+    → printed ≡ linesOf 0 (map (answerTo (length h)) (rustFrames [] ds)) ++ endTo (length h) (rustLeft [] ds)
+prints {h} ds e r =
     let c : Calls new h (joined ds) _ (r .stage .session .splitter) (r .stage .hold) = rw e at (calls (r .pieces)) in
     let f = follows [] (stands-fresh new h) c in
-    let lines = traces (r .pieces) .text ∙ ap (linesOf (length p) 0) (as-the-rust ds c) in
+    let lines = traces (r .pieces) .text ∙ ap (linesOf 0) (as-the-rust ds c) in
     let shown = line-shown (r .last) (omega (arith, r .last .short, r .room)) in
     let last = shown ∙ stands-end (f .stands) ∙ (λ i. endTo (f .size i) (line-leaves ds i)) in
     r .whole ∙ (λ i. lines i ++ last i)
 
--- pieces of one stream, cut in two ways, with buffers of equal lengths, whatever they hold
-pub any-cut : {h p h′ p′ : List ℕ} {cs cs′ : List (List ℕ)} {printed printed′ : List ℕ} → length h ≡ length h′ → length p ≡ length p′ → joined cs ≡ joined cs′
-    → Run h p cs printed → Run h′ p′ cs′ printed′ → printed ≡ printed′
-any-cut {cs′ = ds} eh ep e r r′ =
+-- pieces of one stream, cut in two ways, with hold buffers of equal lengths, whatever they hold
+pub any-cut : {h h′ : List ℕ} {cs cs′ : List (List ℕ)} {printed printed′ : List ℕ} → length h ≡ length h′ → joined cs ≡ joined cs′
+    → Run h cs printed → Run h′ cs′ printed′ → printed ≡ printed′
+any-cut {cs′ = ds} eh e r r′ =
     prints ds e r
-    ∙ (λ i. linesOf (ep i) 0 (map (answerTo (eh i)) (rustFrames [] ds)) ++ endTo (eh i) (rustLeft [] ds))
+    ∙ (λ i. linesOf 0 (map (answerTo (eh i)) (rustFrames [] ds)) ++ endTo (eh i) (rustLeft [] ds))
     ∙ sym (prints ds refl r′)

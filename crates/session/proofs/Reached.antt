@@ -12,12 +12,12 @@ use Rattle.session.specs.Program.{first, Pieces, done, piece, Reached}
 behind-last : {t t′ t″ : Stage} {cs : List (List ℕ)} {text text″ c : List ℕ} → Pieces t cs text t′ → Pieces t′ (c ∷ []) text″ t″
     → Pieces t (cs ++ (c ∷ [])) (text ++ text″) t″
 behind-last done next = next
-behind-last {text″ = text″} (piece {text = text} out r h p out′ room e rest) next =
-    rw (append-assoc (frontOf (toldUsize (r .reply)) out′) text text″) (piece out r h p out′ room e (behind-last rest next))
+behind-last {text″ = text″} (piece {text = text} out r h out′ room e rest) next =
+    rw (append-assoc (frontOf (toldUsize (r .reply)) out′) text text″) (piece out r h out′ room e (behind-last rest next))
 
-pub starts : (h p : List ℕ) → Reached h p (first h p)
-starts h p = record { cs = []; text = []; pieces = done }
+pub starts : (h : List ℕ) → Reached h (first h)
+starts h = record { cs = []; text = []; pieces = done }
 
-pub goes-further : {h p : List ℕ} (t : Stage) (c out : List ℕ) (r : Ran) (h′ p′ out′ : List ℕ) → doneBy r h′ p′ out′ ≡ pieceRule t c out
-    → roomFor (length c) ≤ length out → Reached h p t → Reached h p (stage (r .session) h′ p′)
-goes-further t c out r h′ p′ out′ e room s = record { cs = _; text = _; pieces = behind-last (s .pieces) (piece out r h′ p′ out′ room e done) }
+pub goes-further : {h : List ℕ} (t : Stage) (c out : List ℕ) (r : Ran) (h′ out′ : List ℕ) → doneBy r h′ out′ ≡ pieceRule t c out
+    → roomFor (length c) ≤ length out → Reached h t → Reached h (stage (r .session) h′)
+goes-further t c out r h′ out′ e room s = record { cs = _; text = _; pieces = behind-last (s .pieces) (piece out r h′ out′ room e done) }

@@ -1,5 +1,5 @@
 -- One piece of the input: the splitter is fed until all of it is taken, and each event's line is put behind the last.
--- The rule fixes the reply, the session, and every byte of the three lent buffers.
+-- The rule fixes the reply, the session, and every byte of the two lent buffers.
 use Prim.Native.Nat.{ℕ, zero, suc, min, _+_, _-_, _*_, _^_}
 use mathlib.Core.Bool.{cond}
 use mathlib.Core.List.{List, [], _∷_, _++_}
@@ -7,21 +7,19 @@ use lib.Dec.{leb, ltb}
 use lib.ListN.{length, take, drop}
 use Rattle.error.specs.Refusal.{Told, yes, no, onYes, filled}
 use Rattle.error.specs.Result.{toldUsize}
-use Rattle.frame.specs.Rule.{parseRule}
-use Rattle.splitter.specs.Feed.{Given, feedRule, isBad, more, overlong, frame}
+use Rattle.splitter.specs.Feed.{Given, feedRule, isBad}
 use Rattle.stream.specs.Stream.{Said, saidOf}
 use Rattle.session.specs.declared.Session.{Session}
 use Rattle.session.specs.declared.Ran.{Ran}
 use Rattle.session.specs.Lines.{lineTo, numberTo}
 
--- where the work stands: the session, the hold buffer and the payload buffer
+-- where the work stands: the session and the hold buffer
 pub record Stage : Type 0 where
   pub session : Session
   pub hold : List ℕ
-  pub payload : List ℕ
 
-abbrev pub stage : Session → List ℕ → List ℕ → Stage
-stage s h p = record { session = s; hold = h; payload = p }
+abbrev pub stage : Session → List ℕ → Stage
+stage s h = record { session = s; hold = h }
 
 -- ---- one call of the splitter
 
@@ -32,18 +30,10 @@ abbrev pub said : Stage → List ℕ → Said
 said t c = saidOf c (fed t c .hold) (fed t c .answer)
 
 abbrev pub eventText : Stage → List ℕ → List ℕ
-eventText t c = lineTo (length (t .payload)) (t .session .number) (said t c)
-
--- a frame's payload fills the payload buffer's front
-abbrev pub payloadTo : List ℕ → Said → List ℕ
-payloadTo p (yes more) = p
-payloadTo p (yes overlong) = p
-payloadTo p (yes (frame w)) = filled (onYes (λ f. f .payload) (parseRule w (length p))) p
-payloadTo p (no k vs) = p
+eventText t c = lineTo (t .session .number) (said t c)
 
 abbrev pub stageAfter : Stage → List ℕ → Stage
-stageAfter t c =
-    stage (record { splitter = fed t c .state; number = numberTo (t .session .number) (said t c) }) (fed t c .hold) (payloadTo (t .payload) (said t c))
+stageAfter t c = stage (record { splitter = fed t c .state; number = numberTo (t .session .number) (said t c) }) (fed t c .hold)
 
 -- ---- the whole piece
 
@@ -76,8 +66,8 @@ pub record Done : Type 0 where
 abbrev pub done : Told (List ℕ) → Stage → List ℕ → Done
 done text t out = record { reply = onYes length text; stage = t; out = filled text out }
 
-abbrev pub doneBy : Ran → List ℕ → List ℕ → List ℕ → Done
-doneBy r h p out = record { reply = toldUsize (r .reply); stage = stage (r .session) h p; out = out }
+abbrev pub doneBy : Ran → List ℕ → List ℕ → Done
+doneBy r h out = record { reply = toldUsize (r .reply); stage = stage (r .session) h; out = out }
 
 -- the lines of the whole piece
 abbrev pub allLines : Stage → List ℕ → List ℕ → Done

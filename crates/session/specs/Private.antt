@@ -24,8 +24,8 @@ pub record Wrote (text old : List ℕ) (n : ℕ) (new : List ℕ) : Type 0 where
 abbrev pub stepOf : FrameSplitter → ℕ → ℕ → ℕ → Step
 stepOf s n taken written = record { session = record { splitter = s; number = n }; taken = taken; written = written }
 
--- one call of the splitter at stage t on the chunk c: h, p and new are the buffers after it
-pub record Stepped (t : Stage) (c out : List ℕ) (r : Step) (h p new : List ℕ) : Type 0 where
+-- one call of the splitter at stage t on the chunk c: h and new are the buffers after it
+pub record Stepped (t : Stage) (c out : List ℕ) (r : Step) (h new : List ℕ) : Type 0 where
   pub taken : r .taken ≡ fed t c .taken
-  pub after : stage (r .session) h p ≡ stageAfter t c
+  pub after : stage (r .session) h ≡ stageAfter t c
   pub line : Wrote (eventText t c) out (r .written) new

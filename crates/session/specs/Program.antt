@@ -12,31 +12,31 @@ use Rattle.session.specs.declared.Ran.{Ran}
 use Rattle.session.specs.Piece.{Stage, stage, roomFor, pieceRule, doneBy, frontOf}
 
 -- before the first piece
-abbrev pub first : List ℕ → List ℕ → Stage
-first hold payload = stage (record { splitter = new; number = 0 }) hold payload
+abbrev pub first : List ℕ → Stage
+first hold = stage (record { splitter = new; number = 0 }) hold
 
 -- Calls of `Session::piece` over pieces, from a stage to a stage, and the text that is printed. A call is lent the buffer `out`, whatever
--- it holds, with the room that the piece c asks for. Its reply r and the buffers h, p and out′ at exit are any that its contract allows;
--- then what the reply says is printed (`text_of`), and only the next call touches the hold and payload buffers.
+-- it holds, with the room that the piece c asks for. Its reply r and the buffers h and out′ at exit are any that its contract allows;
+-- then what the reply says is printed (`text_of`), and only the next call touches the hold buffer.
 pub data Pieces : Stage → List (List ℕ) → List ℕ → Stage → Type 0 where
   done : {t : Stage} → Pieces t [] [] t
-  piece : {t t′ : Stage} {c : List ℕ} {cs : List (List ℕ)} {text : List ℕ} (out : List ℕ) (r : Ran) (h p out′ : List ℕ)
+  piece : {t t′ : Stage} {c : List ℕ} {cs : List (List ℕ)} {text : List ℕ} (out : List ℕ) (r : Ran) (h out′ : List ℕ)
       → roomFor (length c) ≤ length out
-      → doneBy r h p out′ ≡ pieceRule t c out
-      → Pieces (stage (r .session) h p) cs text t′
+      → doneBy r h out′ ≡ pieceRule t c out
+      → Pieces (stage (r .session) h) cs text t′
       → Pieces t (c ∷ cs) (frontOf (toldUsize (r .reply)) out′ ++ text) t′
 
 -- some such calls, from fresh, lead to a stage
-pub record Reached (hold payload : List ℕ) (t : Stage) : Type 0 where
+pub record Reached (hold : List ℕ) (t : Stage) : Type 0 where
   pub cs : List (List ℕ)
   pub text : List ℕ
-  pub pieces : Pieces (first hold payload) cs text t
+  pub pieces : Pieces (first hold) cs text t
 
--- The whole run, from fresh, with a hold and a payload buffer: the pieces cs, then the line at the end, in a buffer of 128 bytes or more.
-pub record Run (hold payload : List ℕ) (cs : List (List ℕ)) (printed : List ℕ) : Type 0 where
+-- The whole run, from fresh, with a hold buffer: the pieces cs, then the line at the end, in a buffer of 128 bytes or more.
+pub record Run (hold : List ℕ) (cs : List (List ℕ)) (printed : List ℕ) : Type 0 where
   pub text : List ℕ
   pub stage : Stage
-  pub pieces : Pieces (first hold payload) cs text stage
+  pub pieces : Pieces (first hold) cs text stage
   pub out : List ℕ
   pub reply : ResultUsize
   pub out′ : List ℕ

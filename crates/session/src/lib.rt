@@ -9,7 +9,7 @@ ghost use Rattle.error.specs.Refusal.{yes};
 ghost use Rattle.splitter.specs.Feed.{new, isBad, frame};
 ghost use Rattle.report.specs.Line.{longText};
 ghost use Rattle.session.specs.Lines.{lineTo};
-ghost use Rattle.session.specs.Piece.{stage, payloadTo, roomFor, allLines, pieceRule, frontOf, doneBy};
+ghost use Rattle.session.specs.Piece.{stage, roomFor, allLines, pieceRule, frontOf, doneBy};
 ghost use Rattle.session.specs.Private.{countOf, Wrote, stepOf, Stepped};
 use error::ResultUsize;
 use error::WireError;
@@ -40,9 +40,9 @@ impl Session {
     }
 
     // All of a piece: the lines of its events at the front of out.
-    pub fn piece(self, hold: &mut [u8], payload: &mut [u8], chunk: &[u8], out: &mut [u8]) -> Ran
-        ensures { λ r. ⌜ doneBy r (now (hold .exit)) (now (payload .exit)) (now (out .exit)) ≡
-            pieceRule (stage self (now (hold .entry)) (now (payload .entry))) (now (chunk .entry)) (now (out .entry)) ⌝ }
+    pub fn piece(self, hold: &mut [u8], chunk: &[u8], out: &mut [u8]) -> Ran
+        ensures { λ r. ⌜ doneBy r (now (hold .exit)) (now (out .exit)) ≡
+            pieceRule (stage self (now (hold .entry))) (now (chunk .entry)) (now (out .entry)) ⌝ }
     {
         if self.splitter.is_bad(hold.len()) {
             return Ran {
@@ -58,7 +58,7 @@ impl Session {
                 session: self,
             };
         }
-        all_lines(self, hold, payload, chunk, out)
+        all_lines(self, hold, chunk, out)
     }
 }
 
@@ -90,22 +90,16 @@ fn room_for(len: usize) -> usize
 }
 
 // The lines of a piece's events, one behind the other.
-fn all_lines(
-    start: Session,
-    hold: &mut [u8],
-    payload: &mut [u8],
-    chunk: &[u8],
-    out: &mut [u8],
-) -> Ran
+fn all_lines(start: Session, hold: &mut [u8], chunk: &[u8], out: &mut [u8]) -> Ran
     requires { ⌜ (isBad (start .splitter) (length (now hold)) ≡ false) × (128 * length (now chunk) ≤ length (now out)) ⌝ }
-    ensures { λ r. ⌜ doneBy r (now (hold .exit)) (now (payload .exit)) (now (out .exit)) ≡
-        allLines (stage start (now (hold .entry)) (now (payload .entry))) (now (chunk .entry)) (now (out .entry)) ⌝ }
+    ensures { λ r. ⌜ doneBy r (now (hold .exit)) (now (out .exit)) ≡
+        allLines (stage start (now (hold .entry))) (now (chunk .entry)) (now (out .entry)) ⌝ }
 {
     let mut session = start;
     let mut at = 0;
     let mut written = 0;
     while at < chunk.len() {
-        let step = next_event(session, hold, payload, &chunk[at..], &mut out[written..]);
+        let step = next_event(session, hold, &chunk[at..], &mut out[written..]);
         session = step.session;
         at += step.taken;
         written += step.written;
@@ -123,16 +117,9 @@ struct Step {
 }
 
 // One call of the splitter: its event's line at the front of out.
-fn next_event(
-    session: Session,
-    hold: &mut [u8],
-    payload: &mut [u8],
-    chunk: &[u8],
-    out: &mut [u8],
-) -> Step
+fn next_event(session: Session, hold: &mut [u8], chunk: &[u8], out: &mut [u8]) -> Step
     requires { ⌜ 128 ≤ length (now out) ⌝ }
-    ensures { λ r. ⌜ Stepped (stage session (now (hold .entry)) (now (payload .entry))) (now (chunk .entry)) (now (out .entry))
-        r (now (hold .exit)) (now (payload .exit)) (now (out .exit)) ⌝ }
+    ensures { λ r. ⌜ Stepped (stage session (now (hold .entry))) (now (chunk .entry)) (now (out .entry)) r (now (hold .exit)) (now (out .exit)) ⌝ }
 {
     let number = session.number;
     let before = session.splitter;
@@ -144,7 +131,7 @@ fn next_event(
     match event {
         Event::Frame(place) => {
             let wire = view::view(chunk, hold, place);
-            let written = put_frame(number, wire, payload, out);
+            let written = put_frame(number, wire, out);
             stepped_to(splitter, next, taken, written)
         }
         Event::Overlong => {
@@ -166,15 +153,14 @@ fn stepped_to(splitter: FrameSplitter, number: u64, taken: usize, written: usize
     }
 }
 
-// The line of a frame, whose payload goes to the payload buffer.
-fn put_frame(number: u64, wire: &[u8], payload: &mut [u8], out: &mut [u8]) -> usize
+// The line of a frame: it is opened, and nothing of it is copied.
+fn put_frame(number: u64, wire: &[u8], out: &mut [u8]) -> usize
     requires { ⌜ 128 ≤ length (now out) ⌝ }
-    ensures line { λ r. ⌜ Wrote (lineTo (length (now (payload .entry))) number (yes (frame (now (wire .entry))))) (now (out .entry)) r (now (out .exit)) ⌝ }
-    ensures kept { λ r. ⌜ now (payload .exit) ≡ payloadTo (now (payload .entry)) (yes (frame (now (wire .entry)))) ⌝ }
+    ensures { λ r. ⌜ Wrote (lineTo number (yes (frame (now (wire .entry))))) (now (out .entry)) r (now (out .exit)) ⌝ }
 {
     let len = wire.len();
-    let parsed = RawFrame::parse(wire, payload);
-    count(report::frame_line(number, len, parsed, out))
+    let opened = RawFrame::open(wire);
+    count(report::frame_line(number, len, opened, out))
 }
 
 fn put_long(number: u64, out: &mut [u8]) -> usize

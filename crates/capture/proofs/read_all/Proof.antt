@@ -15,46 +15,43 @@ use Rattle.capture.proofs.read_all.Statement.{statement}
 use Rattle.capture.proofs.read_all.Tie as tie
 
 abbrev Inv-loop : tie.InvT-loop
-Inv-loop hold₀ payload₀ piece₀ lines₀ session₀ turns₀ hold payload piece lines session turns =
-    (Reached hold₀ payload₀ (stage session hold payload)) × (length hold ≡ length hold₀) × (length payload ≡ length payload₀)
-    × (length piece ≡ length piece₀) × (length lines ≡ length lines₀)
+Inv-loop hold₀ piece₀ lines₀ session₀ turns₀ hold piece lines session turns =
+    (Reached hold₀ (stage session hold)) × (length hold ≡ length hold₀) × (length piece ≡ length piece₀) × (length lines ≡ length lines₀)
 
 abbrev μ-loop : tie.MeasureT-loop
-μ-loop hold₀ payload₀ piece₀ lines₀ session₀ turns₀ hold payload piece lines session turns = turns
+μ-loop hold₀ piece₀ lines₀ session₀ turns₀ hold piece lines session turns = turns
 
 -- one piece more: it is at most 8,192 bytes long, so there is room for its lines
 abbrev given : tie.After-piece2 Inv-loop μ-loop → tie.At-loop Inv-loop μ-loop
-given c = c .before .before .before .before .before .before .before .before .before .before .before .before .before
+given c = c .before .before .before .before .before .before .before .before .before .before .before .before
 
 further :
     (c : tie.After-piece2 Inv-loop μ-loop)
-    → let a = given c .before .before .before .before .before .before .args in
-    Reached (a .hold .now) (a .payload .now) (stage (c .piece2 .result .session) (c .piece2 .last .1 .0) (c .piece2 .last .1 .1 .0))
+    → let a = given c .before .before .before .before .before .args in
+    Reached (a .hold .now) (stage (c .piece2 .result .session) (c .piece2 .last .1 .0))
 further c =
-    let s = given c .before .before .before .before .before .before in
+    let s = given c .before .before .before .before .before in
     let l = given c .loop in
     let r = c .piece2 in
-    let n = c .before .before .before .before .before .count in
-    let got = c .before .before .before .before .before .before .before .before .before .before .read in
+    let n = c .before .before .before .before .count in
+    let got = c .before .before .before .before .before .before .before .before .before .read in
     let bytes : List ℕ = take (n .result) (got .last .1 .0) in
     let within : n .result ≤ length (got .last .1 .0) = n .ensures .0 .0 in
     let size : n .result ≡ length bytes = n .ensures .0 .1 in
     let same : length (got .last .1 .0) ≡ length (l .piece) = got .kept .1 .0 in
-    let most : length (l .piece) ≡ 8192 = l .inv .3 ∙ s .pre .0 in
-    let lines : length (l .lines) ≡ 1048576 = l .inv .4 ∙ s .pre .1 in
+    let most : length (l .piece) ≡ 8192 = l .inv .2 ∙ s .pre .0 in
+    let lines : length (l .lines) ≡ 1048576 = l .inv .3 ∙ s .pre .1 in
     let room = room-enough bytes (l .lines) (omega (arith, within, size, same, most)) lines in
-    goes-further (stage (l .session) (l .hold) (l .payload)) bytes (l .lines)
-    (r .result) (r .last .1 .0) (r .last .1 .1 .0) (r .last .1 .1 .1 .1 .0) (r .ensures) room (l .inv .0)
+    goes-further (stage (l .session) (l .hold)) bytes (l .lines) (r .result) (r .last .1 .0) (r .last .1 .1 .1 .0) (r .ensures) room (l .inv .0)
 
 new-requires : tie.Need-new-requires Inv-loop μ-loop
 new-requires c κs = tt
 
 loop-holds : tie.Need-loop-holds Inv-loop μ-loop
 loop-holds c =
-    let a = c .before .before .before .before .before .args in
+    let a = c .before .before .before .before .args in
     let h = a .hold .now in
-    let p = a .payload .now in
-    (subst (λ (s : Session). Reached h p (stage s h p)) (sym (c .new .ensures)) (starts h p), refl, refl, refl, refl)
+    (subst (λ (s : Session). Reached h (stage s h)) (sym (c .new .ensures)) (starts h), refl, refl, refl)
 
 read-requires : tie.Need-read-requires Inv-loop μ-loop
 read-requires c κs = tt
@@ -84,7 +81,7 @@ loop-less : tie.Need-loop-less Inv-loop μ-loop
 loop-less c = omega arith
 
 loop-again : tie.Need-loop-again Inv-loop μ-loop
-loop-again c = (further (c .before .before .before .before .before .before .before .before .before .before), omega arith, omega arith, omega arith, omega arith)
+loop-again c = (further (c .before .before .before .before .before .before .before .before), omega arith, omega arith, omega arith)
 
 same-length : tie.Need-same-length Inv-loop μ-loop
 same-length c = omega arith
@@ -95,11 +92,11 @@ same-length-2 c = omega arith
 same-length-3 : tie.Need-same-length-3 Inv-loop μ-loop
 same-length-3 c = omega arith
 
-same-length-4 : tie.Need-same-length-4 Inv-loop μ-loop
-same-length-4 c = omega arith
-
 returns : tie.Need-returns Inv-loop μ-loop
 returns c = c .before .loop .inv .0
+
+same-length-4 : tie.Need-same-length-4 Inv-loop μ-loop
+same-length-4 c = omega arith
 
 same-length-5 : tie.Need-same-length-5 Inv-loop μ-loop
 same-length-5 c = omega arith
@@ -107,29 +104,20 @@ same-length-5 c = omega arith
 same-length-6 : tie.Need-same-length-6 Inv-loop μ-loop
 same-length-6 c = omega arith
 
+returns-2 : tie.Need-returns-2 Inv-loop μ-loop
+returns-2 c = c .before .before .before .before .before .before .before .loop .inv .0
+
 same-length-7 : tie.Need-same-length-7 Inv-loop μ-loop
 same-length-7 c = omega arith
 
 same-length-8 : tie.Need-same-length-8 Inv-loop μ-loop
 same-length-8 c = omega arith
 
-returns-2 : tie.Need-returns-2 Inv-loop μ-loop
-returns-2 c = c .before .before .before .before .before .before .before .loop .inv .0
-
 same-length-9 : tie.Need-same-length-9 Inv-loop μ-loop
 same-length-9 c = omega arith
 
-same-length-10 : tie.Need-same-length-10 Inv-loop μ-loop
-same-length-10 c = omega arith
-
-same-length-11 : tie.Need-same-length-11 Inv-loop μ-loop
-same-length-11 c = omega arith
-
-same-length-12 : tie.Need-same-length-12 Inv-loop μ-loop
-same-length-12 c = omega arith
-
 returns-3 : tie.Need-returns-3 Inv-loop μ-loop
-returns-3 c = further (c .before .before .before .before .before .before .before .before .before .before)
+returns-3 c = further (c .before .before .before .before .before .before .before .before)
 
 pub read-all-spec : {M : Type 1} → statement M
 read-all-spec =
@@ -152,15 +140,12 @@ read-all-spec =
     same-length
     same-length-2
     same-length-3
-    same-length-4
     returns
+    same-length-4
     same-length-5
     same-length-6
+    returns-2
     same-length-7
     same-length-8
-    returns-2
     same-length-9
-    same-length-10
-    same-length-11
-    same-length-12
     returns-3)

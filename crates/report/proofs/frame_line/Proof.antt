@@ -18,12 +18,12 @@ abbrev given : tie.After-said-width → tie.Start
 given c = c .before .before .before .before
 
 abbrev text : tie.After-said-width → List ℕ
-text c = frameText (given c .args .number) (given c .args .len) (toldRawFrame (given c .args .parsed))
+text c = frameText (given c .args .number) (given c .args .len) (toldRawFrame (given c .args .opened))
 
 whole : (c : tie.After-said-width) → c .before .before .digits .result + c .before .digits2 .result + c .said-width .result + 2 ≡ length (text c)
 whole c =
     let a = given c .args in
-    let l = frame-length (a .number) (a .len) (toldRawFrame (a .parsed)) in
+    let l = frame-length (a .number) (a .len) (toldRawFrame (a .opened)) in
     omega (arith, l, c .said-width .ensures .0, c .before .digits2 .ensures .0, c .before .before .digits .ensures .0)
 
 little : (c : tie.After-said-width) → c .before .before .digits .result + c .before .digits2 .result + c .said-width .result + 2 ≤ 128
@@ -36,7 +36,7 @@ tested c = c .before .before .before .before .before .before .before .before .be
 before-end :
     (c : tie.After-put-said)
     → let a = given (tested c .before) .args in
-    Put (frameFront (a .number) (a .len) (toldRawFrame (a .parsed))) (a .out .now) 0 (c .put-said .result) (c .put-said .last .1 .0)
+    Put (frameFront (a .number) (a .len) (toldRawFrame (a .opened))) (a .out .now) 0 (c .put-said .result) (c .put-said .last .1 .0)
 before-end c =
     let n = c .before .before .before .before in
     let d = n .before .before .before .before in
@@ -77,7 +77,7 @@ slice-write-out c =
     let p = c .before .before in
     let d = tested p .before in
     let a = given d .args in
-    end-room (text d) (a .out .now) _ (whole d) (little d) (tested p .if1 .left) (before-end p) (frame-parts (a .number) (a .len) (toldRawFrame (a .parsed)))
+    end-room (text d) (a .out .now) _ (whole d) (little d) (tested p .if1 .left) (before-end p) (frame-parts (a .number) (a .len) (toldRawFrame (a .opened)))
 
 same-length : tie.Need-same-length
 same-length c = simp length-set (put-length (before-end (c .before .before)))
@@ -87,7 +87,7 @@ returns-2 c =
     let p = c .before .before in
     let d = tested p .before in
     let a = given d .args in
-    ended-line (text d) (a .out .now) _ (whole d) (little d) (tested p .if1 .left) (before-end p) (frame-parts (a .number) (a .len) (toldRawFrame (a .parsed)))
+    ended-line (text d) (a .out .now) _ (whole d) (little d) (tested p .if1 .left) (before-end p) (frame-parts (a .number) (a .len) (toldRawFrame (a .opened)))
 
 pub frame-line-spec : {M : Type 1} → statement M
 frame-line-spec =

@@ -1,15 +1,14 @@
 -- `next_event` meets its contract: each arm is the rule's case for what the splitter said.
 -- What all arms know is said once, in the module below.
 use Prim.Native.Nat.{ℕ}
-use mathlib.Core.Path.{_≡_, refl, sym, ap, _∙_}
+use mathlib.Core.Path.{_≡_, sym, ap, _∙_}
 use mathlib.Core.List.{List}
-use lib.ListN.{length}
 use Rattle.splitter.specs.declared.Event.{Event}
 use Rattle.splitter.specs.Feed.{toldEvent, frame}
 use Rattle.error.specs.Refusal.{yes}
 use Rattle.stream.specs.Stream.{Said, saidOf}
 use Rattle.session.specs.Lines.{lineTo, numberTo}
-use Rattle.session.specs.Piece.{Stage, stage, payloadTo}
+use Rattle.session.specs.Piece.{Stage, stage}
 use Rattle.session.specs.Private.{Wrote, Stepped, stepOf}
 use Rattle.session.proofs.Events.{stepped, silent}
 use borrow.Author.Needs.{needs}
@@ -22,21 +21,21 @@ module _ (c : tie.After-wrapping-add-u64) where
   fed = c .before .before .before .before
 
   abbrev given : tie.Start
-  given = fed .before .before .before .before .before .before .before
+  given = fed .before .before .before .before .before .before
 
   abbrev before : Stage
-  before = stage (given .args .session) (given .args .hold .now) (given .args .payload .now)
+  before = stage (given .args .session) (given .args .hold .now)
 
   abbrev said : Event → Said
   said e = saidOf (given .args .chunk .now) (fed .feed .last .1 .0) (toldEvent e)
 
   arm :
-      (a : Said) → said (fed .feed .result .event) ≡ a → (n : ℕ) (p new : List ℕ) → p ≡ payloadTo (before .payload) a
-      → Wrote (lineTo (length (before .payload)) (before .session .number) a) (given .args .out .now) n new
+      (a : Said) → said (fed .feed .result .event) ≡ a → (n : ℕ) (new : List ℕ)
+      → Wrote (lineTo (before .session .number) a) (given .args .out .now) n new
       → let r = stepOf (fed .feed .result .splitter) (numberTo (before .session .number) a) (fed .feed .result .taken) n in
-      Stepped before (given .args .chunk .now) (given .args .out .now) r (fed .feed .last .1 .0) p new
-  arm a s n p new =
-      stepped before (given .args .chunk .now) (given .args .out .now) (fed .feed .result) (fed .feed .last .1 .0) (fed .feed .ensures) a s n p new
+      Stepped before (given .args .chunk .now) (given .args .out .now) r (fed .feed .last .1 .0) new
+  arm a s n new =
+      stepped before (given .args .chunk .now) (given .args .out .now) (fed .feed .result) (fed .feed .last .1 .0) (fed .feed .ensures) a s n new
 
 feed-requires : tie.Need-feed-requires
 feed-requires c κs = search needs
@@ -83,25 +82,22 @@ same-length c = search needs
 same-length-2 : tie.Need-same-length-2
 same-length-2 c = search needs
 
-same-length-3 : tie.Need-same-length-3
-same-length-3 c = search needs
-
 returns : tie.Need-returns
 returns c =
-    let f = c .before .before .before .before .before in
-    let v = f .before .before .before in
+    let f = c .before .before .before in
+    let v = f .before .before in
     let e = v .before .before .before in
     let w = e .before .before in
     let p = f .put-frame in
     let wire = ap (said w) (e .event .given .1) ∙ ap (λ (w : List ℕ). yes (frame w)) (sym (v .view .ensures .0)) in
     rw (c .stepped-to .ensures, w .wrapping-add-u64 .ensures)
-    (arm w _ wire (p .result) (p .last .1 .1 .0) (p .last .1 .1 .1 .0) (p .ensures .1) (p .ensures .0))
+    (arm w _ wire (p .result) (p .last .1 .1 .0) (p .ensures))
+
+same-length-3 : tie.Need-same-length-3
+same-length-3 c = search needs
 
 same-length-4 : tie.Need-same-length-4
 same-length-4 c = search needs
-
-same-length-5 : tie.Need-same-length-5
-same-length-5 c = search needs
 
 returns-2 : tie.Need-returns-2
 returns-2 c =
@@ -109,25 +105,25 @@ returns-2 c =
     let e = l .before .before in
     let w = e .before .before in
     rw (c .stepped-to2 .ensures, w .wrapping-add-u64 .ensures)
-    (arm w _ (ap (said w) (e .enum-told .given .1)) (l .put-long .result) (before w .payload) (l .put-long .last .1 .0) refl (l .put-long .ensures))
+    (arm w _ (ap (said w) (e .enum-told .given .1)) (l .put-long .result) (l .put-long .last .1 .0) (l .put-long .ensures))
 
-same-length-6 : tie.Need-same-length-6
-same-length-6 c = search needs
+same-length-5 : tie.Need-same-length-5
+same-length-5 c = search needs
 
 returns-3 : tie.Need-returns-3
 returns-3 c =
     let w = c .before .before .before in
     rw (c .stepped-to3 .ensures)
-    (arm w _ (ap (said w) (c .before .enum-told2 .given .1)) 0 (before w .payload) (given w .args .out .now) refl (silent (given w .args .out .now)))
+    (arm w _ (ap (said w) (c .before .enum-told2 .given .1)) 0 (given w .args .out .now) (silent (given w .args .out .now)))
 
-same-length-7 : tie.Need-same-length-7
-same-length-7 c = search needs
+same-length-6 : tie.Need-same-length-6
+same-length-6 c = search needs
 
 returns-4 : tie.Need-returns-4
 returns-4 c =
     let w = c .before .before .before in
     rw (c .stepped-to4 .ensures)
-    (arm w _ (ap (said w) (c .before .enum-told3 .given .1)) 0 (before w .payload) (given w .args .out .now) refl (silent (given w .args .out .now)))
+    (arm w _ (ap (said w) (c .before .enum-told3 .given .1)) 0 (given w .args .out .now) (silent (given w .args .out .now)))
 
 pub next-event-spec : {M : Type 1} → statement M
 next-event-spec =
@@ -148,12 +144,11 @@ next-event-spec =
     stepped-to-requires-4
     same-length
     same-length-2
-    same-length-3
     returns
+    same-length-3
     same-length-4
-    same-length-5
     returns-2
-    same-length-6
+    same-length-5
     returns-3
-    same-length-7
+    same-length-6
     returns-4)

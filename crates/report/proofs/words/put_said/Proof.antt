@@ -1,4 +1,4 @@
--- `put_said` meets its contract: each answer of parsing has its words, put one behind the other.
+-- `put_said` meets its contract: each answer of opening has its words, put one behind the other.
 -- The room asked for is that of the words of the case at hand.
 use Prim.Native.Nat.{ℕ, _+_, _≤_}
 use mathlib.Core.Path.{sym, ap, _∙_, subst}
@@ -21,39 +21,39 @@ use Rattle.report.proofs.words.put_said.Tie as tie
 -- ---- the room there is, where the frame is good, and where it is refused
 
 ok-room :
-    (c : tie.After-parsed)
+    (c : tie.After-opened)
     → let a = c .before .before .before .args in
-    a .at + (length (decimalOf (c .parsed .given .0 .0 .len)) + 13) ≤ length (a .out .now)
+    a .at + (length (decimalOf (c .opened .given .0 .0 .len)) + 13) ≤ length (a .out .now)
 ok-room c =
-    let g = c .parsed .given in
+    let g = c .opened .given in
     let e = ap (λ (x : ResultRawFrame). length (spaced (resultWords (toldRawFrame x)))) (g .1) ∙ sym (ok-width (g .0 .0)) in
     omega (arith, e, c .before .before .before .pre)
 
 no-room :
-    (c : tie.After-parsed2)
+    (c : tie.After-opened2)
     → let a = c .before .before .before .args in
-    let e = c .parsed2 .given .0 .0 in
+    let e = c .opened2 .given .0 .0 in
     a .at + (length (decimalOf (numberOf e)) + length (valuesText (valuesOf e)) + 4) ≤ length (a .out .now)
 no-room c =
-    let g = c .parsed2 .given in
+    let g = c .opened2 .given in
     let e = ap (λ (x : ResultRawFrame). length (spaced (resultWords (toldRawFrame x)))) (g .1) ∙ sym (no-width (numberOf (g .0 .0)) (valuesOf (g .0 .0))) in
     omega (arith, e, c .before .before .before .pre)
 
 -- `NO` and the refusal's number
-abbrev refused : tie.After-put-number → tie.After-parsed2
+abbrev refused : tie.After-put-number → tie.After-opened2
 refused c = c .before .before .before .before .before .before .before .before .before .before
 
 to-number :
     (c : tie.After-put-number)
     → let a = refused c .before .before .before .args in
-    let words = (0x20 ∷ 0x4E ∷ 0x4F ∷ []) ++ (0x20 ∷ decimalOf (numberOf (refused c .parsed2 .given .0 .0))) in
+    let words = (0x20 ∷ 0x4E ∷ 0x4F ∷ []) ++ (0x20 ∷ decimalOf (numberOf (refused c .opened2 .given .0 .0))) in
     Put words (a .out .now) (a .at) (c .put-number .result) (c .put-number .last .1 .1 .0)
 to-number c =
     let t = c .before .before .before .before .before in
     put-then (t .put-text2 .ensures) (rw (t .before .before .before .number .ensures) at (c .put-number .ensures))
 
-enum-known-parsed : tie.Need-enum-known-parsed
-enum-known-parsed c = search needs
+enum-known-opened : tie.Need-enum-known-opened
+enum-known-opened c = search needs
 
 slice-aggregate-put-text : tie.Need-slice-aggregate-put-text
 slice-aggregate-put-text c = search needs
@@ -67,8 +67,8 @@ put-fields-requires c κs =
     let p = t .put-text .ensures in
     omega (arith, p .place, put-length p, ok-room (t .before .before .before .before))
 
-enum-known-parsed-2 : tie.Need-enum-known-parsed-2
-enum-known-parsed-2 c = search needs
+enum-known-opened-2 : tie.Need-enum-known-opened-2
+enum-known-opened-2 c = search needs
 
 number-requires : tie.Need-number-requires
 number-requires c κs = search needs
@@ -109,7 +109,7 @@ returns c =
     let p = t .before .before .before .before in
     let a = p .before .before .before .args in
     subst (λ (x : ResultRawFrame). Put (spaced (resultWords (toldRawFrame x))) (a .out .now) (a .at) (f .put-fields .result) (f .put-fields .last .1 .0))
-    (sym (p .parsed .given .1))
+    (sym (p .opened .given .1))
     (put-then (t .put-text .ensures) (f .put-fields .ensures))
 
 same-length-2 : tie.Need-same-length-2
@@ -122,18 +122,18 @@ returns-2 c =
     let p = refused n in
     let a = p .before .before .before .args in
     subst (λ (x : ResultRawFrame). Put (spaced (resultWords (toldRawFrame x))) (a .out .now) (a .at) (v .put-values .result) (v .put-values .last .1 .0))
-    (sym (p .parsed2 .given .1))
+    (sym (p .opened2 .given .1))
     (put-then (to-number n) (v .put-values .ensures))
 
 pub put-said-spec : {M : Type 1} → statement M
 put-said-spec =
     tie.close
     (tie.spec
-    enum-known-parsed
+    enum-known-opened
     slice-aggregate-put-text
     put-text-requires
     put-fields-requires
-    enum-known-parsed-2
+    enum-known-opened-2
     number-requires
     cast-number
     slice-aggregate-put-text-2

@@ -1,4 +1,4 @@
--- `said_width` meets its contract: each answer of parsing has its words.
+-- `said_width` meets its contract: each answer of opening has its words.
 -- A refusal's number has at most three digits, so no width passes 70.
 use Prim.Native.Nat.{ℕ, _+_, _≤_}
 use mathlib.Core.Path.{_≡_, sym, ap, _∙_}
@@ -15,8 +15,8 @@ use borrow.Author.Needs.{needs}
 use Rattle.report.proofs.words.said_width.Statement.{statement}
 use Rattle.report.proofs.words.said_width.Tie as tie
 
-enum-known-parsed : tie.Need-enum-known-parsed
-enum-known-parsed c = search needs
+enum-known-opened : tie.Need-enum-known-opened
+enum-known-opened c = search needs
 
 digits-requires : tie.Need-digits-requires
 digits-requires c κs = search needs
@@ -24,8 +24,8 @@ digits-requires c κs = search needs
 add-result : tie.Need-add-result
 add-result c = search needs
 
-enum-known-parsed-2 : tie.Need-enum-known-parsed-2
-enum-known-parsed-2 c = search needs
+enum-known-opened-2 : tie.Need-enum-known-opened-2
+enum-known-opened-2 c = search needs
 
 number-requires : tie.Need-number-requires
 number-requires c κs = search needs
@@ -47,7 +47,7 @@ add-result-3 c = search needs
 
 returns : tie.Need-returns
 returns c =
-    let g = c .before .before .parsed .given in
+    let g = c .before .before .opened .given in
     let s = sym (ap (λ (x : ResultRawFrame). length (spaced (resultWords (toldRawFrame x)))) (g .1)) in
     (ap (λ (k : ℕ). k + 13) (c .digits .ensures .0) ∙ ok-width (g .0 .0) ∙ s, omega (arith, c .digits .ensures .1))
 
@@ -55,7 +55,7 @@ returns-2 : tie.Need-returns-2
 returns-2 c =
     let d = c .before in
     let n = d .before in
-    let g = n .before .before .parsed2 .given in
+    let g = n .before .before .opened2 .given in
     let s = sym (ap (λ (x : ResultRawFrame). length (spaced (resultWords (toldRawFrame x)))) (g .1)) in
     let k : d .digits2 .result ≡ length (decimalOf (numberOf (g .0 .0))) = d .digits2 .ensures .0 ∙ ap (λ (m : ℕ). length (decimalOf m)) (n .number .ensures) in
     let l : length (decimalOf (n .number .result)) ≤ 3 = decimal-most 2 (n .number .result) (omega (arith, n .number .ok)) in
@@ -68,10 +68,10 @@ pub said-width-spec : {M : Type 1} → statement M
 said-width-spec =
     tie.close
     (tie.spec
-    enum-known-parsed
+    enum-known-opened
     digits-requires
     add-result
-    enum-known-parsed-2
+    enum-known-opened-2
     number-requires
     cast-digits
     digits-requires-2

@@ -12,7 +12,7 @@ use Rattle.session.proofs.Session.piece.Statement.{statement}
 use Rattle.session.proofs.Session.piece.Tie as tie
 
 abbrev given : tie.After-is-bad → tie.Start
-given c = c .before .before .before .before .before
+given c = c .before .before .before .before
 
 good : (c : tie.Else1) → isBad (given (c .before) .args .self .splitter) (length (given (c .before) .args .hold .now)) ≡ false
 good c = sym (c .before .is-bad .ensures) ∙ c .if1 .left
@@ -23,7 +23,7 @@ is-bad-requires c κs = search needs
 returns : tie.Need-returns
 returns c =
     let a = given (c .before) .args in
-    piece-bad (stage (a .self) (a .hold .now) (a .payload .now)) (a .chunk .now) (a .out .now) (sym (c .before .is-bad .ensures) ∙ c .if1 .taken)
+    piece-bad (stage (a .self) (a .hold .now)) (a .chunk .now) (a .out .now) (sym (c .before .is-bad .ensures) ∙ c .if1 .taken)
 
 room-for-requires : tie.Need-room-for-requires
 room-for-requires c κs = search needs
@@ -33,15 +33,15 @@ returns-2 c =
     let f = c .before .before in
     let a = given (f .before) .args in
     let less = rw (c .before .room-for .ensures) at (c .if2 .taken) in
-    rw (c .before .room-for .ensures) (piece-full (stage (a .self) (a .hold .now) (a .payload .now)) (a .chunk .now) (a .out .now) (good f) less)
+    rw (c .before .room-for .ensures) (piece-full (stage (a .self) (a .hold .now)) (a .chunk .now) (a .out .now) (good f) less)
 
 all-lines-requires : tie.Need-all-lines-requires
 all-lines-requires c κs =
-    let r = c .before .before .before .before in
+    let r = c .before .before .before in
     let f = r .before in
     let a = given (f .before) .args in
-    let n : roomFor (length (a .chunk .now)) ≤ length (a .out .now) = rw (r .room-for .ensures) at (c .before .before .before .if2 .left) in
-    (good f, room-is (length (a .chunk .now)) (length (a .out .now)) (given (f .before) .good .1 .1 .1 .1 .0 .1) n)
+    let n : roomFor (length (a .chunk .now)) ≤ length (a .out .now) = rw (r .room-for .ensures) at (c .before .before .if2 .left) in
+    (good f, room-is (length (a .chunk .now)) (length (a .out .now)) (given (f .before) .good .1 .1 .1 .0 .1) n)
 
 same-length : tie.Need-same-length
 same-length c = search needs
@@ -49,17 +49,14 @@ same-length c = search needs
 same-length-2 : tie.Need-same-length-2
 same-length-2 c = search needs
 
-same-length-3 : tie.Need-same-length-3
-same-length-3 c = search needs
-
 returns-3 : tie.Need-returns-3
 returns-3 c =
-    let l = c .before .before .before .before .before .before in
-    let r = l .before .before .before .before .before in
+    let l = c .before .before .before .before in
+    let r = l .before .before .before .before in
     let f = r .before in
     let a = given (f .before) .args in
-    let room = rw (r .room-for .ensures) at (l .before .before .before .before .if2 .left) in
-    l .all-lines .ensures ∙ piece-fits (stage (a .self) (a .hold .now) (a .payload .now)) (a .chunk .now) (a .out .now) (good f) room
+    let room = rw (r .room-for .ensures) at (l .before .before .before .if2 .left) in
+    l .all-lines .ensures ∙ piece-fits (stage (a .self) (a .hold .now)) (a .chunk .now) (a .out .now) (good f) room
 
 pub piece-spec : {M : Type 1} → statement M
 piece-spec =
@@ -72,5 +69,4 @@ piece-spec =
     all-lines-requires
     same-length
     same-length-2
-    same-length-3
     returns-3)

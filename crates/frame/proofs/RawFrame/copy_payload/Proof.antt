@@ -1,8 +1,8 @@
--- `RawFrame::parse` meets its contract: a wire is checked, then the room is tested, then its payload is copied.
+-- `RawFrame::copy_payload` meets its contract: a wire is checked, then the room is tested, then its payload is copied.
 -- A refusal leaves the buffer as it was, and a success its rest.
 use borrow.Author.Needs.{needs}
 use mathlib.Core.Path.{_≡_, refl, sym, ap, _∙_}
-use mathlib.Core.List.{List, _++_}
+use mathlib.Core.List.{List, [], _∷_, _++_}
 use Prim.Native.Nat.{ℕ, _≤_, _<_}
 use native.Mathlib.Omega.{arith}
 use lib.ListN.{length, take, drop}
@@ -12,12 +12,12 @@ use Rattle.error.specs.Refusal.{yes, no, onYes, filled, numberOf, valuesOf}
 use Rattle.checking.specs.declared.Head.{Head}
 use Rattle.error.proofs.Tells.{part-refused}
 use Rattle.checking.specs.Rule.{headOf, toldHead}
-use Rattle.frame.specs.Rule.{checkRule, parseRule, rawFrame, headerOf}
+use Rattle.frame.specs.Rule.{checkRule, parseRule, copyRule}
 use Rattle.frame.specs.Private.{raw}
 use Rattle.frame.proofs.Cases.{parse-refused, parse-room, parse-fits}
 use Rattle.frame.proofs.Parsed.{Held, held, partOf}
-use Rattle.frame.proofs.RawFrame.parse.Statement.{statement}
-use Rattle.frame.proofs.RawFrame.parse.Tie as tie
+use Rattle.frame.proofs.RawFrame.copy_payload.Statement.{statement}
+use Rattle.frame.proofs.RawFrame.copy_payload.Tie as tie
 
 -- a head that was answered: what it tells, and the fields behind it
 module _ (c : tie.After-known-told2) where
@@ -30,10 +30,21 @@ module _ (c : tie.After-known-told2) where
   seen : Held (start .args .wire .now) head
   seen = held (start .args .wire .now) head (ap toldHead (sym (c .before .checked2 .given .1)) ∙ c .before .before .before .check .ensures)
 
+-- there is no room: that is answered, and the buffer is as it was
+cramped : (c : tie.Then1)
+    → let a = start (c .before) .args in
+    let t = copyRule (a .wire .now) (length (a .buf .now)) in
+    (no 8 (head (c .before) .len ∷ length (a .buf .now) ∷ []) ≡ onYes length t) × (a .buf .now ≡ filled t (a .buf .now))
+cramped c =
+    let h = seen (c .before) in
+    let a = start (c .before) .args in
+    let short : length (a .buf .now) < length (h .value .payload) = rw (← h .len) (c .if1 .taken) in
+    rw (parse-room (a .wire .now) (length (a .buf .now)) (h .value) (h .is) short, ← h .len) (refl, refl)
+
 -- its payload fits, and the lent part of the buffer is as long
 module _ (c : tie.Else1) where
   abbrev old : List ℕ
-  old = start (c .before) .args .payload .now
+  old = start (c .before) .args .buf .now
 
   fits : head (c .before) .len ≤ length old
   fits = omega (arith, c .if1 .left)
@@ -43,13 +54,12 @@ module _ (c : tie.Else1) where
 
   -- the answer and the buffer, whatever holds the bytes that were copied
   answered : {b : List ℕ} → b ≡ raw 0 (partOf (start (c .before) .args .wire .now) (head (c .before)))
-      → (yes (rawFrame (head (c .before) .dest) (head (c .before) .src) (head (c .before) .«type_id») (head (c .before) .len))
-      ≡ onYes headerOf (parseRule (start (c .before) .args .wire .now) (length old)))
-      × (b ++ drop (head (c .before) .len) old ≡ filled (onYes (λ f. f .payload) (parseRule (start (c .before) .args .wire .now) (length old))) old)
+      → let t = copyRule (start (c .before) .args .wire .now) (length old) in
+      (yes (head (c .before) .len) ≡ onYes length t) × (b ++ drop (head (c .before) .len) old ≡ filled t old)
   answered e =
       let h = seen (c .before) in
       rw (parse-fits (start (c .before) .args .wire .now) (length old) (h .value) (h .is) (omega (arith, h .len, fits)))
-      (ap (λ (x : Head). yes (rawFrame (x .dest) (x .src) (x .«type_id») (x .len))) (h .told), λ j. (e ∙ h .bytes) j ++ drop (h .len j) old)
+      (ap yes (h .len), λ j. (e ∙ h .bytes) j ++ drop (h .len j) old)
 
 -- a refusal that was answered
 module _ (c : tie.After-known-told) where
@@ -59,13 +69,13 @@ module _ (c : tie.After-known-told) where
   abbrev why : WireError
   why = c .before .checked .given .0 .0
 
-  refused : parseRule (asked .args .wire .now) (length (asked .args .payload .now)) ≡ no (numberOf why) (valuesOf why)
+  refused : parseRule (asked .args .wire .now) (length (asked .args .buf .now)) ≡ no (numberOf why) (valuesOf why)
   refused =
       let w = asked .args .wire .now in
       let t =
       part-refused (headOf w) (checkRule w) (numberOf why) (valuesOf why)
       (sym (ap toldHead (sym (c .before .checked .given .1)) ∙ c .before .before .before .check .ensures)) in
-      parse-refused w (length (asked .args .payload .now)) (numberOf why) (valuesOf why) t
+      parse-refused w (length (asked .args .buf .now)) (numberOf why) (valuesOf why) t
 
 check-requires : tie.Need-check-requires
 check-requires c κs = search needs
@@ -77,11 +87,7 @@ enum-known-checked-2 : tie.Need-enum-known-checked-2
 enum-known-checked-2 c = search needs
 
 returns : tie.Need-returns
-returns c =
-    let h = seen (c .before) in
-    let a = start (c .before) in
-    let short : length (a .args .payload .now) < length (h .value .payload) = rw (← h .len) (c .if1 .taken) in
-    rw (parse-room (a .args .wire .now) (length (a .args .payload .now)) (h .value) (h .is) short, ← h .len) (refl, refl)
+returns c = cramped c
 
 sub-copy : tie.Need-sub-copy
 sub-copy c = seen (c .before) .ordered
@@ -113,8 +119,8 @@ same-length c = search needs
 returns-3 : tie.Need-returns-3
 returns-3 c = let p = c .before .before in answered (p .before .before .before) (p .copy .ensures)
 
-pub parse-spec : {M : Type 1} → statement M
-parse-spec =
+pub copy-payload-spec : {M : Type 1} → statement M
+copy-payload-spec =
     tie.close
     (tie.spec
     check-requires
