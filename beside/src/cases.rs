@@ -306,14 +306,34 @@ pub fn random(r: &mut Random) -> Case {
     }
 }
 
+/// Reading an exponent and the low 24 bits of a mantissa.
+fn float40(e: u16, m: u32) -> Case {
+    case(ops::READ_FLOAT40, 0, 0, [&e.to_be_bytes()[..], &m.to_be_bytes()[1..]].concat())
+}
+
+/// Exponents of each kind: normal values alone, subnormal ones too, the least power, two powers that are zeros, finite for
+/// every mantissa, for all but one, for three, and for 0 alone.
+const EXPONENTS: [i16; 9] = [1, -1010, -1051, -1052, -1053, 1023, 1024, 1046, 1047];
+
+/// FLOAT40 read with each leading one, of both signs, at every exponent, and with every mantissa at `EXPONENTS`.
+pub fn mantissas(mut take: impl FnMut(Case)) {
+    for e in 0..=u16::MAX {
+        for m in (0..24).map(|place| 1u32 << place) {
+            take(float40(e, m));
+            take(float40(e, m.wrapping_neg()));
+        }
+    }
+    for e in EXPONENTS {
+        (0..1 << 24).for_each(|m| take(float40(e as u16, m)));
+    }
+}
+
 /// All the bounded cases, each once: `take` is called with every one.
 pub fn bounded(r: &mut Random, mut take: impl FnMut(Case)) {
     // FLOAT40: every exponent, with mantissas at the edges and sampled
     for e in 0..=u16::MAX {
         for m in [0, 1, 0x40_0000, 0x7F_FFFF, 0x80_0000, 0xFF_FFFF, r.next() as u32 & 0xFF_FFFF] {
-            let mut data = e.to_be_bytes().to_vec();
-            data.extend_from_slice(&m.to_be_bytes()[1..]);
-            take(case(ops::READ_FLOAT40, 0, 0, data));
+            take(float40(e, m));
         }
     }
     // f64 patterns of every exponent, both signs

@@ -2,6 +2,7 @@
 //!
 //!     beside [CASES [SEED]]    compare: short inputs all, the boundaries, and CASES random ones (10 million);
 //!                              prints the count and the seed, or the first case that differs
+//!     beside mantissas         compare FLOAT40 read: each leading one at every exponent, every mantissa at a few exponents
 //!     beside list DIR          write the fixed list: DIR/stdin has the cases, DIR/stdout the Rust's answers
 //!     beside bench             the time of both, in pairs, and the ratio
 //!     beside differences       the inputs of docs/DIFFERENCES.md, and what each side answers
@@ -47,17 +48,27 @@ fn run(count: u64, seed: u64) {
     println!("{done} cases, {count} of them random, seed {seed}: every answer of the port is the Rust's");
 }
 
+fn mantissas() {
+    let mut done = 0u64;
+    cases::mantissas(|c| {
+        compare(&c);
+        done += 1;
+    });
+    println!("{done} FLOAT40 fields: every answer of the port is the Rust's");
+}
+
 fn main() {
     let args: Vec<String> = std::env::args().skip(1).collect();
     match args.iter().map(String::as_str).collect::<Vec<_>>()[..] {
         ["bench"] => bench::run(),
         ["differences"] => differences::run(),
+        ["mantissas"] => mantissas(),
         ["list", dir] => list::write(dir),
         [] => run(CASES, SEED),
         [count] => run(count.parse().expect("a count of cases"), SEED),
         [count, seed] => run(count.parse().expect("a count of cases"), seed.parse().expect("a seed")),
         _ => {
-            eprintln!("beside [CASES [SEED]] | beside list DIR | beside bench | beside differences");
+            eprintln!("beside [CASES [SEED]] | beside mantissas | beside list DIR | beside bench | beside differences");
             exit(2);
         }
     }

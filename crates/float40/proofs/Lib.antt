@@ -4,5 +4,9 @@ pub mod Signed
 pub mod Pow2
 pub mod Over
 pub mod Value
+pub mod Leading
+pub mod Placed
+pub mod Made
 pub mod Part
+pub mod Edges
 pub mod One

@@ -1,17 +1,20 @@
--- Signed numbers: differences of naturals, a fixed number less, a count from the least, and a test against 0.
--- For exponents: e - 23 is a difference of two naturals, and `exp2` counts from its least.
+-- Signed numbers: differences of naturals, a fixed number more or less, a count from the least, and what a test says.
+-- For exponents: e - 23 is a difference of two naturals, and the bits are made of sums of e.
 use Prim.Native.Nat.{ℕ, suc, _+_, _-_, _<_, _≤_}
 use mathlib.Core.Path.{_≡_, refl, sym, ap, subst, _∙_}
-use mathlib.Core.Bool.{Bool, false, cond}
+use mathlib.Core.Bool.{Bool, true, false, cond, false≢true}
 use native.Mathlib.Omega.{arith}
+use native.Mathlib.Nat.{zero-add}
 use lib.IntN.{ℤ, pos, negsuc, subℕ, _+ℤ_, _-ℤ_, natAbs}
-use lib.Signed.{mag, ltZ}
+use lib.Dec.{T}
+use lib.Signed.{mag, nonNeg, ltZ, leZ}
 use lib.Ieee.{minus}
 use mir.Syntax.{Width}
-use mir.Val.{SFits, ofZ}
-use mir.ValLaws.{pow-bits}
-use borrow.Author.Tests.{lt-ltb, le-ltb, le-leb, lt-leb, ltb-false}
+use mir.Val.{SFits, toZ, ofZ}
+use mir.ValLaws.{pow-bits, toZ-ofZ}
+use borrow.Author.Tests.{lt-ltb, le-ltb, le-leb, lt-leb, ltb-true, ltb-false, leb-true, leb-false}
 use Rattle.general.proofs.Cases.{by-lt}
+use Rattle.float40.specs.Float40.{negative}
 
 -- ---- a - b of two naturals, as `minus` and as `subℕ`
 
@@ -48,25 +51,94 @@ less a b d =
     (λ g. let e : a - b - suc d ≡ a - (b + suc d) = omega arith in
     sub-le (a - b) (suc d) (omega arith) ∙ ap pos e ∙ sym (minus-le a (b + suc d) g)))
 
-pub mag-less : (z : ℤ) (d : ℕ) → mag (z -ℤ pos (suc d)) ≤ mag z + suc d
-mag-less (pos n) d =
-    by-lt n (suc d) (λ h. subst (λ (y : ℤ). mag y ≤ n + suc d) (sym (sub-lt n (suc d) h)) (omega arith))
-    (λ h. subst (λ (y : ℤ). mag y ≤ n + suc d) (sym (sub-le n (suc d) h)) (omega arith))
-mag-less (negsuc n) d = omega arith
+-- c more makes f of it: then it is f - c
+pub plus-back : (z : ℤ) (c f : ℕ) → z +ℤ pos c ≡ pos f → z ≡ minus f c
+plus-back (pos n) c f e =
+    let q : n + c ≡ f = ap natAbs e in
+    let r : n ≡ f - c = omega arith in
+    ap pos r ∙ sym (minus-le f c (omega arith))
+plus-back (negsuc n) c f e =
+    by-lt c (suc n) (λ h. absurd (subst (λ (y : ℤ). T (nonNeg y)) (sym e ∙ sub-lt c (suc n) h) tt))
+    (λ h. let q : c - suc n ≡ f = ap natAbs (sym (sub-le c (suc n) h) ∙ e) in
+    let r : n ≡ c - suc f = omega arith in
+    ap negsuc r ∙ sym (minus-lt f c (omega arith)))
 
--- ---- a number from -(H + 1) to M, counted from there
+-- t more of both
+pub both-more : (a b t : ℕ) → minus a b ≡ minus (a + t) (b + t)
+both-more a b t =
+    by-lt a b
+    (λ h. let e : b - suc a ≡ b + t - suc (a + t) = omega arith in
+    minus-lt a b h ∙ ap negsuc e ∙ sym (minus-lt (a + t) (b + t) (omega arith)))
+    (λ h. let e : a - b ≡ a + t - (b + t) = omega arith in
+    minus-le a b h ∙ ap pos e ∙ sym (minus-le (a + t) (b + t) (omega arith)))
 
-module _ (H M : ℕ) where
-  pub counted : (z : ℤ) → ltZ z (negsuc H) ≡ false → ltZ (pos M) z ≡ false → (j : ℕ) × (j ≤ suc H + M) × (z +ℤ pos (suc H) ≡ pos j) × (z ≡ minus j (suc H))
-  counted (pos n) l m =
-      let e : n ≡ n + suc H - suc H = omega arith in
-      (n + suc H, omega (arith, ltb-false M n m), refl, ap pos e ∙ sym (minus-le (n + suc H) (suc H) (omega arith)))
-  counted (negsuc n) l m =
-      let h : n ≤ H = ltb-false H n l in
-      let e : n ≡ suc H - suc (suc H - suc n) = omega arith in
-      (suc H - suc n, omega arith, sub-le (suc H) (suc n) (omega arith), ap negsuc e ∙ sym (minus-lt (suc H - suc n) (suc H) (omega arith)))
+pub plus : (a b c : ℕ) → minus a b +ℤ pos c ≡ minus (a + c) b
+plus a b c =
+    by-lt a b
+    (λ h. ap (λ (z : ℤ). z +ℤ pos c) (minus-lt a b h)
+    ∙ by-lt c (suc (b - suc a))
+    (λ g. let e : suc (b - suc a) - suc c ≡ b - suc (a + c) = omega arith in
+    sub-lt c (suc (b - suc a)) g ∙ ap negsuc e ∙ sym (minus-lt (a + c) b (omega arith)))
+    (λ g. let e : c - suc (b - suc a) ≡ a + c - b = omega arith in
+    sub-le c (suc (b - suc a)) g ∙ ap pos e ∙ sym (minus-le (a + c) b (omega arith))))
+    (λ h. let e : a - b + c ≡ a + c - b = omega arith in
+    ap (λ (z : ℤ). z +ℤ pos c) (minus-le a b h) ∙ ap pos e ∙ sym (minus-le (a + c) b (omega arith)))
 
--- ---- a test of the bits against 0 is one of the number
+pub mag-plus : (z : ℤ) (c : ℕ) → mag (z +ℤ pos c) ≤ mag z + c
+mag-plus (pos n) c = omega arith
+mag-plus (negsuc n) c =
+    by-lt c (suc n) (λ h. subst (λ (y : ℤ). mag y ≤ n + c) (sym (sub-lt c (suc n) h)) (omega arith))
+    (λ h. subst (λ (y : ℤ). mag y ≤ n + c) (sym (sub-le c (suc n) h)) (omega arith))
+
+-- a number that is not below -(H + 1), counted from there
+pub counted : (H : ℕ) (z : ℤ) → ltZ z (negsuc H) ≡ false → (j : ℕ) × (z +ℤ pos (suc H) ≡ pos j)
+counted H (pos n) l = (n + suc H, refl)
+counted H (negsuc n) l = (suc H - suc n, sub-le (suc H) (suc n) (omega (arith, ltb-false H n l)))
+
+-- ---- tests
+
+pub from-zero : (z : ℤ) → leZ (pos 0) z ≡ true → (f : ℕ) × (z ≡ pos f)
+from-zero (negsuc n) h = absurd (false≢true h)
+from-zero (pos n) h = (n, refl)
+
+pub not-below : (z : ℤ) → ltZ z (pos 0) ≡ false → leZ (pos 0) z ≡ true
+not-below (negsuc n) h = absurd (false≢true (sym h))
+not-below (pos n) h = le-leb 0 n (omega arith)
+
+pub at-most : {b f : ℕ} {z : ℤ} → z ≡ pos f → leZ z (pos b) ≡ true → f ≤ b
+at-most {b} {f} q h = leb-true f b (ap (λ (y : ℤ). leZ y (pos b)) (sym q) ∙ h)
+
+pub past : {b f : ℕ} {z : ℤ} → z ≡ pos f → leZ z (pos b) ≡ false → b < f
+past {b} {f} q h = leb-false f b (ap (λ (y : ℤ). leZ y (pos b)) (sym q) ∙ h)
+
+pub minus-below : (a b : ℕ) → ltZ (minus a b) (pos 0) ≡ true → a < b
+minus-below a b h =
+    by-lt a b (λ g. g)
+    (λ g. absurd (let q : ⊥ = omega (arith, ltb-true (a - b) 0 (ap (λ (z : ℤ). ltZ z (pos 0)) (sym (minus-le a b g)) ∙ h)) in q))
+
+-- ---- the sign, and the magnitude
+
+negative-is : (z : ℤ) → ltZ z (pos 0) ≡ negative z
+negative-is (pos n) = le-ltb n 0 (omega arith)
+negative-is (negsuc n) = refl
+
+pub abs-le : (z : ℤ) → natAbs z ≤ suc (mag z)
+abs-le (pos n) = omega arith
+abs-le (negsuc n) = omega arith
+
+-- 0 less a negative number is its magnitude
+pub opposite : (z : ℤ) → negative z ≡ true → pos 0 -ℤ z ≡ pos (natAbs z)
+opposite (pos n) e = absurd (false≢true e)
+opposite (negsuc n) e = ap pos (zero-add (suc n))
+
+pub not-negative : (z : ℤ) → negative z ≡ false → T (nonNeg z)
+not-negative (pos n) e = tt
+not-negative (negsuc n) e = absurd (false≢true (sym e))
+
+-- ---- a test of the machine's number against 0 is one of the number
+
+pub negative-held : (W : Width) (z : ℤ) → SFits W z → ltZ (toZ W (ofZ W z)) (pos 0) ≡ negative z
+negative-held W z f = ap (λ (y : ℤ). ltZ y (pos 0)) (toZ-ofZ W z f) ∙ negative-is z
 
 pub zero-abs : (W : Width) (z : ℤ) → SFits W z → ofZ W z ≡ 0 → natAbs z ≡ 0
 zero-abs W (pos n) f e = e

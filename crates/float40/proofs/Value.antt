@@ -6,20 +6,21 @@ use mathlib.Core.Bool.{Bool, true, false}
 use native.Mathlib.Omega.{arith}
 use native.Mathlib.Nat.{one-mul, mul-one, mul-zero, zero-mul, mul-assoc, mul-right-comm, mul-pos, le-of-lt, lt-of-mul-lt-mul-right}
 use native.Mathlib.Nat.{mul-lt-mul-of-pos-right, lt-irrefl}
-use lib.Dec.{lit≤}
+use lib.Dec.{T, eqb, lit≤}
 use lib.Pow.{pow-pos}
 use lib.IntN.{ℤ, pos, negsuc, natAbs, _-ℤ_}
 use lib.Signed.{ltZ}
-use lib.Ieee.{Float, nan, inf, fin, Format, binary64, up, down, unlike, round, mul, ofInt, fits}
+use lib.Ieee.{Float, nan, inf, fin, Format, binary64, up, down, unlike, round, mul, ofInt, fits, isNan}
 use lib.Ieee.Digits.{minus-val}
 use lib.Ieee.Exact.{HasValue, round-exact}
 use lib.Ieee.Back.{round-whole, whole-unique}
-use lib.Ieee.Fits.{down-pos, round-fits}
+use lib.Ieee.Fits.{down-pos, cond-fits, round-fits, mul-fits}
 use lib.Ieee.Scale.{round-same}
-use borrow.Author.Tests.{ne-eqb}
+use borrow.Author.Tests.{eq-eqb, ne-eqb}
+use Rattle.general.proofs.Cases.{by-test, by-lt, by-eq}
 use Rattle.float40.specs.Float40.{negative, pow2, value40}
 use Rattle.general.specs.Number.{zeroF}
-use Rattle.float40.proofs.Signed.{counted}
+use Rattle.float40.proofs.Signed.{counted, plus-back}
 use Rattle.float40.proofs.Pow2.{pow2-low, pow2-high, pow2-in}
 use Rattle.float40.proofs.Over.{round-over}
 
@@ -71,6 +72,13 @@ pub reads-zero : (e : ℤ) → value40 e (pos 0) ≡ zeroF
 unfolding value40
 reads-zero e = refl
 
+-- a value that binary64 holds
+pub value-fits : (e m : ℤ) → T (fits binary64 (value40 e m))
+unfolding value40 fits
+value-fits e m =
+    let p = mul binary64 (ofInt binary64 m) (pow2 (e -ℤ pos 23)) in
+    cond-fits binary64 (eqb (natAbs m) 0) zeroF p tt (mul-fits binary64 (ofInt binary64 m) (pow2 (e -ℤ pos 23)))
+
 module _ (e m : ℤ) (some : 0 < natAbs m) (whole : natAbs m < 2 ^ 53) where
   x : Float
   x = ofInt binary64 m
@@ -112,11 +120,31 @@ module _ (e m : ℤ) (some : 0 < natAbs m) (whole : natAbs m < 2 ^ 53) where
     reads-exact h =
         let k = e -ℤ pos 23 in
         let n = natAbs m in
-        let c = counted 1073 1023 k low high in
+        let c = counted 1073 k low in
         let j = c .0 in
         let scaled : n * up k * 2 ^ 1074 ≡ n * 2 ^ j * down k =
-        subst (λ (z : ℤ). n * up z * 2 ^ 1074 ≡ n * 2 ^ j * down z) (sym (c .3)) (minus-val n j 1074) in
+        subst (λ (z : ℤ). n * up z * 2 ^ 1074 ≡ n * 2 ^ j * down z) (sym (plus-back k 1074 j (c .1))) (minus-val n j 1074) in
         let room : n * 2 ^ j * down k < 2 ^ 2098 * down k =
         rw (← scaled, ← mul-right-comm (2 ^ 1024) (down k) (2 ^ 1074)) (mul-lt-mul-of-pos-right h (pow-pos 1074)) in
         subst (λ (y : Float). HasValue y (negative m) (n * up k) (down k)) (sym rounded)
         (round-exact binary64 (negative m) (n * up k) (down k) n j (down-pos k) whole (lt-of-mul-lt-mul-right (down k) room) scaled)
+
+-- ---- never a NaN
+
+number : (x : Float) (s : Bool) (a c : ℕ) → HasValue x s a c → isNan x ≡ false
+unfolding isNan
+number nan s a c h = absurd h
+number (inf t) s a c h = absurd h
+number (fin t m e) s a c h = refl
+
+pub reads-number : (e m : ℤ) → natAbs m < 2 ^ 53 → isNan (value40 e m) ≡ false
+unfolding value40 isNan
+reads-number e m w =
+    let k = e -ℤ pos 23 in
+    by-eq (natAbs m) 0 (λ z. rw (eq-eqb (natAbs m) 0 z))
+    (λ s. let some : 0 < natAbs m = omega arith in
+    by-test (ltZ k (negsuc 1073)) (λ l. ap isNan (reads-below e m some w l))
+    (λ l. by-test (ltZ (pos 1023) k) (λ h. ap isNan (reads-above e m some w h))
+    (λ h. by-lt (natAbs m * up k) (2 ^ 1024 * down k)
+    (λ g. number (value40 e m) (negative m) (natAbs m * up k) (down k) (reads-exact e m some w l h g))
+    (λ g. ap isNan (reads-over e m some w l h g)))))

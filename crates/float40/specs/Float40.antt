@@ -1,5 +1,5 @@
 -- Document 01, 'Fields', FLOAT40: exponent e (INT16), then mantissa m (INT24).
--- Reading is one product with a made power of two.
+-- What is read is one product, of m and a float that is a power of two.
 use Prim.Native.Nat.{ℕ, _+_}
 use mathlib.Core.Bool.{Bool, true, false, cond}
 use mathlib.Core.List.{List}

@@ -1,3 +1,4 @@
 -- What the contracts of every FLOAT40 reader cite.
--- One file: the made power of two, the product, and the value at a place.
+-- A client reads Float40: the power of two, the product, and the value at a place. Private is for the bits.
 pub mod Float40
+pub mod Private

@@ -1,12 +1,12 @@
 // FLOAT40, the wire's 40-bit float, read: exponent e (INT16), then mantissa m (INT24), worth m * 2^(e - 23).
 // Too short is refused with 7.
-mod power;
+mod bits;
 
 ghost use mathlib.Core.Path.{_≡_};
 ghost use Rattle.error.specs.Result.{toldF64};
 ghost use Rattle.integer.specs.Fields.{reading};
 ghost use Rattle.float40.specs.Float40.{value40, float40At};
-use crate::power::exp2;
+use crate::bits::value_bits;
 use error::ResultF64;
 use error::WireError;
 
@@ -32,14 +32,11 @@ pub fn float40_at(data: &[u8], offset: usize) -> f64
     front(&data[offset..])
 }
 
-// The value of an exponent and a mantissa: one product. 0 times an infinite power would be no number.
+// The value of an exponent and a mantissa, as bits that whole numbers make: the wall controller has no float unit.
 pub fn float40_of(e: i16, m: i32) -> f64
     ensures { λ r. ⌜ r ≡ value40 e m ⌝ }
 {
-    if m == 0 {
-        return 0.0;
-    }
-    m as f64 * exp2(e as i32 - 23)
+    f64::from_bits(value_bits(e, m))
 }
 
 // The FLOAT40 at the front: of a part, so that the compiler drops the tests of a part that is long enough.
