@@ -6,7 +6,11 @@ ghost use mathlib.Core.Path.{_≡_};
 ghost use Rattle.error.specs.Result.{toldF64};
 ghost use Rattle.integer.specs.Fields.{reading};
 ghost use Rattle.float40.specs.Float40.{value40, float40At};
-use crate::bits::value_bits;
+use crate::bits::magnitude;
+use crate::bits::sign_bit;
+use crate::bits::sign24;
+use crate::bits::size24;
+use crate::bits::value;
 use error::ResultF64;
 use error::WireError;
 
@@ -36,14 +40,15 @@ pub fn float40_at(data: &[u8], offset: usize) -> f64
 pub fn float40_of(e: i16, m: i32) -> f64
     ensures { λ r. ⌜ r ≡ value40 e m ⌝ }
 {
-    f64::from_bits(value_bits(e, m))
+    value(e, sign_bit(m), magnitude(m))
 }
 
-// The FLOAT40 at the front: of a part, so that the compiler drops the tests of a part that is long enough.
+// The FLOAT40 at the front: of a part, so that the compiler drops the tests of a part that is long enough. The mantissa's own bits
+// give sign and magnitude, with no sign to extend first.
 fn front(data: &[u8]) -> f64
     ensures { λ r. ⌜ r ≡ float40At (now («data» .entry)) 0 ⌝ }
 {
     let e = integer::int16_at(data, 0);
-    let m = integer::int24_at(data, 2);
-    float40_of(e, m)
+    let m = integer::uint24_at(data, 2);
+    value(e, sign24(m), size24(m))
 }
