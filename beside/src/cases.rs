@@ -328,6 +328,16 @@ pub fn mantissas(mut take: impl FnMut(Case)) {
     }
 }
 
+/// The log's record of five numbers of thousandths, the first of them as total and backspin too, which are not rounded.
+pub fn logged(figures: [i32; 5]) -> Case {
+    let mut data = vec![0; 157];
+    let mut put = |place: usize, n: i32| data[place..place + 3].copy_from_slice(&n.to_be_bytes()[1..]);
+    put(ops::TOTAL, figures[0]);
+    ops::SHOWN.iter().zip(figures).for_each(|(&place, n)| put(place, n));
+    put(ops::BACKSPIN, figures[0]);
+    case(ops::BAY_LOG, 1, 32, data)
+}
+
 /// All the bounded cases, each once: `take` is called with every one.
 pub fn bounded(r: &mut Random, mut take: impl FnMut(Case)) {
     // FLOAT40: every exponent, with mantissas at the edges and sampled
@@ -439,8 +449,8 @@ fn endings(mut take: impl FnMut(Case)) {
     }
 }
 
-/// Short inputs, all of them: every INT24 read and written, every wire and every text of up to two bytes, short interiors by
-/// how they end, every count, mark and H up to eight.
+/// Short inputs, all of them: every INT24 read, written and logged, every wire and every text of up to two bytes, short
+/// interiors by how they end, every count, mark and H up to eight.
 pub fn exhaustive(mut take: impl FnMut(Case)) {
     for n in 0..1u32 << 24 {
         let bytes = n.to_be_bytes();
@@ -450,6 +460,7 @@ pub fn exhaustive(mut take: impl FnMut(Case)) {
         for op in [ops::WRITE_INT24, ops::WRITE_UINT24] {
             take(case(op, 0, (n as u64) << 8 | n as u64 >> 16, vec![ops::UNTOUCHED; 3]));
         }
+        take(logged([n as i32; 5]));
     }
     for n in 0..=u16::MAX {
         let bytes = n.to_be_bytes();

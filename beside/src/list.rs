@@ -103,6 +103,11 @@ fn limits(r: &mut Random) -> Vec<Case> {
     list
 }
 
+/// Request 5's figures, five to a record of the log.
+fn shown() -> Vec<Case> {
+    [[1_250, -1_250, 1_249, -1_249, 0], [49, 50, -50, 8_388_607, -8_388_608]].map(cases::logged).to_vec()
+}
+
 /// What the program has room for: bytes, and the buffer that a case lends.
 fn fits(c: &Case) -> bool {
     let lent = match c.op {
@@ -132,6 +137,7 @@ pub fn write(dir: &str) {
     let mut list = named(&mut r);
     list.extend(edges());
     list.extend(limits(&mut r));
+    list.extend(shown());
     list.extend(sampled(&mut r));
     while list.len() < CASES {
         let c = cases::random(&mut r);

@@ -52,6 +52,11 @@ pub const FIELD: u8 = 0x40;
 /// a is the event number, b the lent buffer's length.
 pub const BAY_LOG: u8 = 0x41;
 
+/// Where a D4 payload has the total, the five figures that the log shows, and the backspin.
+pub const TOTAL: usize = 1;
+pub const SHOWN: [usize; 5] = [16, 19, 22, 25, 31];
+pub const BACKSPIN: usize = 43;
+
 /// What a lent buffer holds before a call.
 pub const UNTOUCHED: u8 = 0xA5;
 pub const KEPT: f64 = -7.25;

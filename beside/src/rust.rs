@@ -304,11 +304,12 @@ fn bay_log(c: &Case) -> Answer {
         Err(e) => refusal(e),
         Ok(_) if buf.len() < 32 => Answer::refused(8, &[32, buf.len() as u64]),
         Ok(r) => {
-            let raw = |place| codec::read_int24(&c.data, place).unwrap();
+            // request 5: `round` takes a half away from zero, and a half is exact in an f64
+            let tenths = |place| (f64::from(codec::read_int24(&c.data, place).unwrap()) / 100.0).round() as i32;
             let mut out = (c.a as u32).to_be_bytes().to_vec();
             out.push(0xD4);
             codec::write_int24(&mut out, r.total);
-            [16, 19, 22, 25, 31].iter().for_each(|&p| codec::write_int32(&mut out, raw(p) / 100));
+            ops::SHOWN.iter().for_each(|&place| codec::write_int32(&mut out, tenths(place)));
             codec::write_int32(&mut out, r.backspin_rpm);
             buf[..32].copy_from_slice(&out);
             Answer::default()

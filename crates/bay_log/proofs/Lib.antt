@@ -1,5 +1,8 @@
 -- The laws of the log.
--- Laid and Record say what stands in the buffer, One that a call has one reply and one buffer.
+-- Nearest and Examples say what a shown figure is, Halves how it is worked out; Laid and Record what stands in the buffer; One that a call has one reply.
+pub mod Nearest
+pub mod Examples
+pub mod Halves
 pub mod Laid
 pub mod Record
 pub mod One

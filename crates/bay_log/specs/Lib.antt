@@ -1,3 +1,4 @@
--- What the log's contract cites.
--- One file: the record, and what writing it does.
+-- What the log's contract cites, and what a figure that it shows is.
+-- Log has the record and what writing it does, Nearest what the nearest tenth is.
 pub mod Log
+pub mod Nearest

@@ -1,21 +1,25 @@
 -- Document 01, 'Bay log': the 32-byte record of a shot, and what writing it at the front of a buffer does.
 -- Payload short is told first (7), then room below 32 (8); a refusal writes nothing.
-use Prim.Native.Nat.{ℕ}
+use Prim.Native.Nat.{ℕ, suc, _+_, _/_}
 use mathlib.Core.Bool.{cond}
 use mathlib.Core.List.{List, [], _∷_, flatten}
 use lib.Dec.{ltb}
 use lib.ListN.{length}
 use lib.Seq.{sets}
-use lib.IntN.{ℤ, pos}
-use lib.Signed.{quotZ}
+use lib.IntN.{ℤ, pos, negsuc, negℤ}
 use Rattle.error.specs.Refusal.{Told, yes, no}
 use Rattle.integer_write.specs.Writing.{bytesOf, intBytes}
 use Rattle.numbers.specs.declared.Message.the-variants.{FlightResult}
 use Rattle.numbers.specs.Numbers.{shapeOf, wholeOf}
 
--- a shown figure: thousandths divided by 100, toward zero
+-- n thousandths in tenths: the nearest, halves up
+unfoldable pub tenths : ℕ → ℕ
+tenths n = (n + 50) / 100
+
+-- a shown figure (request 5): the nearest tenth, halves away from zero; specs/Nearest says what that is
 unfoldable pub shownOf : ℤ → ℤ
-shownOf z = quotZ z (pos 100)
+shownOf (pos n) = pos (tenths n)
+shownOf (negsuc n) = negℤ (pos (tenths (suc n)))
 
 -- the record's fields: event number, D4, raw total, launch speed, azimuth, elevation, carry, max height, backspin
 unfoldable pub logFields : ℕ → List ℕ → List (List ℕ)

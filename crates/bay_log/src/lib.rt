@@ -1,5 +1,5 @@
 // The bay log: one record of 32 bytes for a shot, from its event number and its D4 payload.
-// The record fills the front of the lent buffer and the rest keeps its bytes; a refusal writes nothing.
+// The record fills the front of the lent buffer and the rest keeps its bytes; a refusal writes nothing. docs/BAY_LOG.md has the layout.
 ghost use mathlib.Core.Path.{_≡_};
 ghost use Rattle.error.specs.Result.{toldUnit};
 ghost use Rattle.integer.specs.Fields.{intAt};
@@ -47,9 +47,10 @@ fn write_shown(buf: &mut [u8], offset: usize, payload: &[u8], at: usize)
     write_int32(buf, offset, shown(int24_at(payload, at)));
 }
 
-// Thousandths as the log shows them: tenths, toward zero.
+// Thousandths as the log shows them: the nearest tenth, halves away from zero.
 fn shown(thousandths: i32) -> i32
     ensures { λ r. ⌜ r ≡ shownOf thousandths ⌝ }
 {
-    thousandths / 100
+    let halves = thousandths / 50;
+    halves - halves / 2 // of an odd number of half tenths the greater part
 }
