@@ -85,7 +85,8 @@ uint8_t mvd_is_trigger(MVD_TEXT);
  * 0 in `is_figure`, a figure sets `figure` and 1. */
 uint64_t mvd_field(uint8_t message, MVD_PAYLOAD, size_t number, int32_t *count, double *figure, uint8_t *is_figure, MVD_VALUES);
 
-/* abi_bay_log: the bay log's record of 32 bytes at the front of `buf`. */
+/* abi_bay_log: the bay log's record of 32 bytes at the front of `buf`; docs/BAY_LOG.md has its layout. Five figures are shown in tenths,
+ * the nearest, halves away from zero: 1,250 thousandths as 13, -1,250 as -13. */
 uint64_t mvd_bay_log(uint32_t event, MVD_PAYLOAD, uint8_t *buf, size_t buf_len, MVD_VALUES);
 
 #endif
