@@ -72,7 +72,11 @@ uint64_t mvd_prc_point(MVD_PAYLOAD, size_t index, int32_t whole[8], double figur
 size_t mvd_club_prc(MVD_PAYLOAD);
 uint64_t mvd_club_prc_point(MVD_PAYLOAD, size_t index, int32_t whole[9], double figures[20], MVD_VALUES);
 uint64_t mvd_encode_request(uint16_t start_index, uint8_t *buf, size_t buf_len, MVD_VALUES);
-/* abi_failure: D4's is_model_failure and E8's is_no_read: 1 for yes. */
+/* abi_failure: whether a shot failed by the league's rule 1 or 2, `mvd_is_failed` of D4 and `mvd_is_failed_v1` of E8: 1 for yes. Rule 1: launch
+ * speed (E8: ball velocity) is at most zero. Rule 2: that, or flight time is at most zero, or carry (E8: distance) is below zero. Any other
+ * number is refused with 11 and that number, before the payload is looked at. D4's is_model_failure and E8's is_no_read are rule 1. */
+uint64_t mvd_is_failed(size_t rule, MVD_PAYLOAD, uint8_t *failed, MVD_VALUES);
+uint64_t mvd_is_failed_v1(size_t rule, MVD_PAYLOAD, uint8_t *failed, MVD_VALUES);
 uint64_t mvd_is_model_failure(MVD_PAYLOAD, uint8_t *failed, MVD_VALUES);
 uint64_t mvd_is_no_read(MVD_PAYLOAD, uint8_t *unread, MVD_VALUES);
 /* abi_shot_text, E5: the text fills the front of `text`, as much as fits, and its length is answered. The three searches: 0 or 1. */

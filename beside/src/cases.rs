@@ -239,13 +239,35 @@ fn speed_case(r: &mut Random) -> Case {
     let (op, least, place) = r.one_of(&[(ops::IS_MODEL_FAILURE, 157, 16), (ops::IS_NO_READ, 94, 7)]);
     let len = least + r.below(3) - r.below(2);
     let mut data = r.bytes(len);
-    let speed: i32 = r.one_of(&[0, 1, -1, -8_388_608, 8_388_607]);
+    let speed = r.one_of(&ABOUT_ZERO);
     data[place..place + 3].copy_from_slice(&speed.to_be_bytes()[1..]);
     case(op, 0, 0, data)
 }
 
+/// What a rule may ask of a figure: 0, one thousandth to either side, and the ends.
+pub const ABOUT_ZERO: [i32; 5] = [0, 1, -1, -8_388_608, 8_388_607];
+
+/// The two rules, and numbers that would be one of them if they were cut to 8, 16 or 32 bits.
+pub const NUMBERS: [u64; 8] = [1, 2, 0, 3, 257, 65_538, 1 << 32 | 1, u64::MAX];
+
+/// A payload asked by a rule's number, with the three figures that the rules ask.
+pub fn failed(op: u8, rule: u64, places: [usize; 3], figures: [i32; 3], mut data: Vec<u8>) -> Case {
+    for (place, figure) in places.into_iter().zip(figures) {
+        data[place..place + 3].copy_from_slice(&figure.to_be_bytes()[1..]);
+    }
+    case(op, rule, 0, data)
+}
+
+fn failed_case(r: &mut Random) -> Case {
+    let (op, least, places) = r.one_of(&ops::ASKED);
+    let len = least + r.below(3) - r.below(2);
+    let figures = [r.one_of(&ABOUT_ZERO), r.one_of(&ABOUT_ZERO), r.one_of(&ABOUT_ZERO)];
+    let rule = if r.below(12) == 0 { r.next() } else { r.one_of(&[1, 2, 2, 2]) };
+    failed(op, rule, places, figures, r.bytes(len))
+}
+
 fn other_case(r: &mut Random) -> Case {
-    match r.below(9) {
+    match r.below(10) {
         0 => {
             let len = r.below(60);
             let mut data = r.bytes(len);
@@ -276,6 +298,7 @@ fn other_case(r: &mut Random) -> Case {
             case(ops::ENCODE_REQUEST, 0, r.next() & 0xFFFF, r.bytes(len))
         }
         6 => speed_case(r),
+        9 => failed_case(r),
         4 | 5 => {
             let mut data = Vec::new();
             for _ in 0..r.below(4) {
@@ -417,6 +440,17 @@ pub fn bounded(r: &mut Random, mut take: impl FnMut(Case)) {
         for room in 0..=4 {
             for cuts in [0, 0x0101_0101_0101_0101, 0x0200_0103_0002_0100] {
                 take(case(ops::SPLIT, room, cuts, stream.clone()));
+            }
+        }
+    }
+    // every three figures about zero by either rule, and numbers that are no rule's
+    for (op, least, places) in ops::ASKED {
+        for k in 0..125 {
+            let figures = [ABOUT_ZERO[k / 25], ABOUT_ZERO[k / 5 % 5], ABOUT_ZERO[k % 5]];
+            for rule in NUMBERS {
+                for len in [least - 1, least, least + 1] {
+                    take(failed(op, rule, places, figures, r.bytes(len)));
+                }
             }
         }
     }

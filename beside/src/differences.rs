@@ -5,7 +5,7 @@ use crate::{ops, port};
 use ironsight::addr::BusAddr;
 use ironsight::codec;
 use ironsight::frame::{FrameSplitter, RawFrame};
-use ironsight::protocol::shot::{ClubPrc, PrcData, ShotText, SpeedProfile};
+use ironsight::protocol::shot::{ClubPrc, FlightResult, PrcData, ShotText, SpeedProfile};
 use std::panic::{catch_unwind, set_hook, take_hook, UnwindSafe};
 
 /// What the Rust answers, or that it panics.
@@ -87,6 +87,12 @@ fn messages() {
     row("EE of no bytes, point 0", ops::CLUB_PRC_POINT, 0, 0, &[], || format!("{} points", ClubPrc::decode(&[]).unwrap().points.len()));
     row("EE request into 76 bytes", ops::ENCODE_REQUEST, 0, 1, &[0; 76], || format!("{} bytes", ClubPrc::encode_request(1).len()));
     row("E5 of FF", ops::SHOT_TEXT, 0, 0, &[0xFF], || hex(ShotText::decode(&[0xFF]).unwrap().text.as_bytes()));
+    let mut short = [0; 157];
+    short[18] = 1;
+    row("D4, launch speed 0.001, flight time 0, by rule 2", ops::IS_FAILED, 2, 0, &short, move || {
+        format!("is_model_failure: {}", FlightResult::decode(&short).unwrap().is_model_failure())
+    });
+    row("D4 by rule 3", ops::IS_FAILED, 3, 0, &[0; 157], || "no such call".into());
     row("D4, field 52", ops::FIELD, 52, 0xD4, &[0; 157], || "no such call".into());
     row("the bay log's record into 31 bytes", ops::BAY_LOG, 1, 31, &[0; 157], || "no such call".into());
 }

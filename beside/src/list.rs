@@ -108,6 +108,22 @@ fn shown() -> Vec<Case> {
     [[1_250, -1_250, 1_249, -1_249, 0], [49, 50, -50, 8_388_607, -8_388_608]].map(cases::logged).to_vec()
 }
 
+/// Request 7: what decides each rule, among figures that are all below zero; numbers that are no rule's; a payload that is short.
+fn failed() -> Vec<Case> {
+    let mut list = Vec::new();
+    for (op, least, places) in ops::ASKED {
+        for rule in [1, 2] {
+            for figures in [[1, 1, 0], [0, 1, 0], [-1, 1, 0], [1, 0, 0], [1, -1, 0], [1, 1, -1], [1, 1, 1]] {
+                list.push(cases::failed(op, rule, places, figures, vec![0xFF; least]));
+            }
+            list.push(case(op, rule, 0, &vec![0; least - 1]));
+        }
+        list.extend(cases::NUMBERS[2..].iter().map(|&rule| case(op, rule, 0, &vec![0; least])));
+        list.push(case(op, 3, 0, &[]));
+    }
+    list
+}
+
 /// What the program has room for: bytes, and the buffer that a case lends.
 fn fits(c: &Case) -> bool {
     let lent = match c.op {
@@ -138,6 +154,7 @@ pub fn write(dir: &str) {
     list.extend(edges());
     list.extend(limits(&mut r));
     list.extend(shown());
+    list.extend(failed());
     list.extend(sampled(&mut r));
     while list.len() < CASES {
         let c = cases::random(&mut r);

@@ -47,6 +47,9 @@ pub const ENCODE_REQUEST: u8 = 0x3A;
 pub const SHOT_TEXT: u8 = 0x3B;
 pub const IS_MODEL_FAILURE: u8 = 0x3C;
 pub const IS_NO_READ: u8 = 0x3D;
+/// Of D4 and of E8: a is the rule's number.
+pub const IS_FAILED: u8 = 0x3E;
+pub const IS_FAILED_V1: u8 = 0x3F;
 /// a is the number, b the message.
 pub const FIELD: u8 = 0x40;
 /// a is the event number, b the lent buffer's length.
@@ -56,6 +59,9 @@ pub const BAY_LOG: u8 = 0x41;
 pub const TOTAL: usize = 1;
 pub const SHOWN: [usize; 5] = [16, 19, 22, 25, 31];
 pub const BACKSPIN: usize = 43;
+
+/// Where a payload has what the league's rules ask: its speed, its flight time and its carry, for each call's least length.
+pub const ASKED: [(u8, usize, [usize; 3]); 2] = [(IS_FAILED, 157, [16, 28, 25]), (IS_FAILED_V1, 94, [7, 10, 13])];
 
 /// What a lent buffer holds before a call.
 pub const UNTOUCHED: u8 = 0xA5;

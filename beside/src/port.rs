@@ -42,6 +42,8 @@ pub mod c {
         pub fn mvd_club_prc(p: *const u8, pn: usize) -> usize;
         pub fn mvd_club_prc_point(p: *const u8, pn: usize, i: usize, w: *mut i32, f: *mut f64, v: *mut u64) -> u64;
         pub fn mvd_encode_request(start: u16, b: *mut u8, bn: usize, v: *mut u64) -> u64;
+        pub fn mvd_is_failed(rule: usize, p: *const u8, pn: usize, failed: *mut u8, v: *mut u64) -> u64;
+        pub fn mvd_is_failed_v1(rule: usize, p: *const u8, pn: usize, failed: *mut u8, v: *mut u64) -> u64;
         pub fn mvd_is_model_failure(p: *const u8, pn: usize, failed: *mut u8, v: *mut u64) -> u64;
         pub fn mvd_is_no_read(p: *const u8, pn: usize, unread: *mut u8, v: *mut u64) -> u64;
         pub fn mvd_shot_text(p: *const u8, pn: usize, t: *mut u8, tn: usize) -> usize;
@@ -373,6 +375,8 @@ pub fn ask(c: &Case) -> Answer {
         ops::SHOT_TEXT => text(c),
         ops::IS_MODEL_FAILURE => test(|yes, v| unsafe { c::mvd_is_model_failure(d, n, yes, v) }),
         ops::IS_NO_READ => test(|yes, v| unsafe { c::mvd_is_no_read(d, n, yes, v) }),
+        ops::IS_FAILED => test(|yes, v| unsafe { c::mvd_is_failed(at, d, n, yes, v) }),
+        ops::IS_FAILED_V1 => test(|yes, v| unsafe { c::mvd_is_failed_v1(at, d, n, yes, v) }),
         ops::FIELD => field(c),
         ops::BAY_LOG => {
             let buf = vec![ops::UNTOUCHED; c.b as usize];

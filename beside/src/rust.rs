@@ -298,6 +298,17 @@ fn field(c: &Case) -> Answer {
     }
 }
 
+/// Request 7: rule 1 is the Rust's own method; rule 2 also compares two figures of the Rust's record, NaN failing wherever it is asked.
+fn failed(c: &Case, rule_1: bool, flight_time: f64, carry: f64) -> Answer {
+    let more = flight_time.is_nan() || flight_time <= 0.0 || carry.is_nan() || carry < 0.0;
+    whole(&[(rule_1 || (c.a == 2 && more)) as i64])
+}
+
+/// A number that is no rule's is told before the payload is looked at.
+fn by_rule(c: &Case, ask: impl FnOnce() -> Answer) -> Answer {
+    if c.a == 1 || c.a == 2 { ask() } else { Answer::refused(11, &[c.a]) }
+}
+
 fn bay_log(c: &Case) -> Answer {
     let mut buf = vec![ops::UNTOUCHED; c.b as usize];
     let mut answer = match FlightResult::decode(&c.data) {
@@ -371,6 +382,12 @@ pub fn ask(c: &Case) -> Answer {
         ops::SHOT_TEXT => text(c),
         ops::IS_MODEL_FAILURE => FlightResult::decode(d).map_or_else(refusal, |r| whole(&[r.is_model_failure() as i64])),
         ops::IS_NO_READ => FlightResultV1::decode(d).map_or_else(refusal, |r| whole(&[r.is_no_read() as i64])),
+        ops::IS_FAILED => by_rule(c, || {
+            FlightResult::decode(d).map_or_else(refusal, |r| failed(c, r.is_model_failure(), r.flight_time, r.carry_distance))
+        }),
+        ops::IS_FAILED_V1 => {
+            by_rule(c, || FlightResultV1::decode(d).map_or_else(refusal, |r| failed(c, r.is_no_read(), r.flight_time, r.distance)))
+        }
         ops::FIELD => field(c),
         ops::BAY_LOG => bay_log(c),
         other => panic!("no operation {other:02X}"),

@@ -1,3 +1,4 @@
--- No two replies are allowed.
--- It is all that this crate proves beside its contracts.
+-- A rule by its number, and that no two replies are allowed.
+-- All else that this crate proves is its contracts.
+pub mod Named
 pub mod One

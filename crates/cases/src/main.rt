@@ -111,7 +111,7 @@ fn answer(head: &[u8], data: &[u8]) {
         0x38 => messages::club_prc(data),
         0x39 => messages::club_prc_point(a, data),
         0x3B => messages::shot_text(data),
-        0x3C | 0x3D => messages::has_failed(op, data),
+        0x3C | 0x3D | 0x3E | 0x3F => messages::has_failed(op, a, data),
         0x40 => messages::field(head, a, data),
         0x41 => messages::bay_log(head, b, data),
         _ => (),

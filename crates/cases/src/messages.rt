@@ -141,14 +141,15 @@ pub(crate) fn shot_text(payload: &[u8]) {
     say::bytes(text);
 }
 
-// `is_model_failure` of D4 (3C) or `is_no_read` of E8.
-pub(crate) fn has_failed(op: u8, data: &[u8]) {
+// Whether a shot failed: `is_model_failure` of D4 (3C), `is_no_read` of E8 (3D), `is_failed` of D4 (3E) and of E8 by a rule's number.
+pub(crate) fn has_failed(op: u8, rule: usize, data: &[u8]) {
     let mut failed = 0u8;
     let mut values = [0u64; 3];
-    let k = if op == 0x3C {
-        abi_failure::mvd_is_model_failure(data, &mut failed, &mut values)
-    } else {
-        abi_failure::mvd_is_no_read(data, &mut failed, &mut values)
+    let k = match op {
+        0x3C => abi_failure::mvd_is_model_failure(data, &mut failed, &mut values),
+        0x3D => abi_failure::mvd_is_no_read(data, &mut failed, &mut values),
+        0x3E => abi_failure::mvd_is_failed(rule, data, &mut failed, &mut values),
+        _ => abi_failure::mvd_is_failed_v1(rule, data, &mut failed, &mut values),
     };
     say::count(k, &values, failed as u64);
 }

@@ -1,3 +1,3 @@
 -- What tells a failed shot.
--- One rule, for D4 and E8 alike.
-pub mod Speed
+-- Two rules, for D4 and E8 alike.
+pub mod League

@@ -25,8 +25,9 @@ use Rattle.flight.proofs.Row.{row-at}
 abbrev numbered : Message → Numbers → ℕ → Number
 numbered m n k = shownBy (ruleOf m k) (n .whole k) (n .figure k)
 
+-- the record of a payload that is long enough
 module _ {A : Type 0} (m : Message) (p : List ℕ) (l : shapeOf m .least ≤ length p) where
-  decoded : (fill : Numbers → A) (w : Told Unit × A) → w ≡ decodeRule m fill p → w .1 ≡ fill (numbersOf m p)
+  pub decoded : (fill : Numbers → A) (w : Told Unit × A) → w ≡ decodeRule m fill p → w .1 ≡ fill (numbersOf m p)
   unfolding decodeRule
   decoded fill w e = ap (λ (v : Told Unit × A). v .1) (rw (le-ltb (length p) (shapeOf m .least) l) at e)
 

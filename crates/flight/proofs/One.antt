@@ -1,5 +1,5 @@
 -- Two replies that a contract of `flight` allows for one input are equal, by the contract as the check reads it off src/ (`Post`).
--- A decoder's reply is its answer and its record; the two rules for a failed shot are plain equations.
+-- A decoder's reply is its answer and its record; whether a shot failed is a plain equation.
 use mathlib.Core.Path.{_≡_, ap}
 use Rattle.general.proofs.One.{plain}
 use Rattle.error.specs.Refusal.{Told}
@@ -7,8 +7,10 @@ use Rattle.error.specs.Result.{toldUnit}
 use Rattle.error.specs.declared.ResultUnit.{ResultUnit}
 use Rattle.error.proofs.Decides.{one-unit}
 use Rattle.flight.proofs.flight_result.FlightResult.decode.Reads as flight-result
+use Rattle.flight.proofs.flight_result.FlightResult.is_failed.Reads as is-failed
 use Rattle.flight.proofs.flight_result.FlightResult.is_model_failure.Reads as is-model-failure
 use Rattle.flight.proofs.flight_result_v1.FlightResultV1.decode.Reads as flight-result-v1
+use Rattle.flight.proofs.flight_result_v1.FlightResultV1.is_failed.Reads as is-failed-v1
 use Rattle.flight.proofs.flight_result_v1.FlightResultV1.is_no_read.Reads as is-no-read
 use Rattle.flight.proofs.club_result.ClubResult.decode.Reads as club-result
 
@@ -27,6 +29,12 @@ one-flight-result-v1 κs a r s x y e f = λ i. record { result = answer (r .resu
 
 pub one-club-result : (κs a r s x y : _) → club-result.Post κs a r x → club-result.Post κs a s y → r ≡ s
 one-club-result κs a r s x y e f = λ i. record { result = answer (r .result) (s .result) e f i; «record» = beside e f i }
+
+pub one-is-failed : (κs a r s x y : _) → is-failed.Post κs a r x → is-failed.Post κs a s y → r ≡ s
+one-is-failed κs a r s x y = plain
+
+pub one-is-failed-v1 : (κs a r s x y : _) → is-failed-v1.Post κs a r x → is-failed-v1.Post κs a s y → r ≡ s
+one-is-failed-v1 κs a r s x y = plain
 
 pub one-is-model-failure : (κs a r s x y : _) → is-model-failure.Post κs a r x → is-model-failure.Post κs a s y → r ≡ s
 one-is-model-failure κs a r s x y = plain

@@ -7,13 +7,14 @@ ghost use Rattle.numbers.specs.Numbers.{shapeOf};
 ghost use Rattle.flight.specs.Decoding.{decodeRule, zeros};
 ghost use Rattle.flight.specs.Private.{numbersIn};
 ghost use Rattle.flight.specs.FlightResultFields.{flightResult, toldFlightResult};
-ghost use Rattle.flight.specs.Failure.{modelFailure};
+ghost use Rattle.flight.specs.Failure.{flightFailed, modelFailure};
 use crate::figures::figure_at;
 use crate::figures::figures3;
 use crate::figures::figures5;
 use error::ResultUnit;
 use error::WireError;
-use failure::no_speed;
+use failure::LeagueRule;
+use failure::failed;
 use integer::int24_at;
 use numbers::D4;
 use numbers::DIVISORS;
@@ -89,11 +90,23 @@ pub struct ResultFlightResult {
 }
 
 impl FlightResult {
+    // Whether the shot failed by a rule of the league.
+    pub fn is_failed(self, rule: LeagueRule) -> bool
+        ensures { λ r. ⌜ r ≡ flightFailed rule self ⌝ }
+    {
+        failed(
+            rule,
+            self.launch_speed,
+            self.flight_time,
+            self.carry_distance,
+        )
+    }
+
     // No flight was found, as where a net stops the ball: no launch speed. The E8 sent before it stays good.
     pub fn is_model_failure(self) -> bool
         ensures { λ r. ⌜ r ≡ modelFailure self ⌝ }
     {
-        no_speed(self.launch_speed)
+        self.is_failed(LeagueRule::Rule1)
     }
 
     pub fn decode(payload: &[u8]) -> ResultFlightResult

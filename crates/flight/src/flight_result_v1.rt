@@ -7,12 +7,13 @@ ghost use Rattle.numbers.specs.Numbers.{shapeOf};
 ghost use Rattle.flight.specs.Decoding.{decodeRule, zeros};
 ghost use Rattle.flight.specs.Private.{numbersIn};
 ghost use Rattle.flight.specs.FlightResultV1Fields.{flightResultV1, toldFlightResultV1};
-ghost use Rattle.flight.specs.Failure.{noRead};
+ghost use Rattle.flight.specs.Failure.{flightV1Failed, noRead};
 use crate::figures::figure_at;
 use crate::figures::figures5;
 use error::ResultUnit;
 use error::WireError;
-use failure::no_speed;
+use failure::LeagueRule;
+use failure::failed;
 use integer::int24_at;
 use numbers::DIVISORS;
 use numbers::E8;
@@ -66,11 +67,18 @@ pub struct ResultFlightResultV1 {
 }
 
 impl FlightResultV1 {
+    // Whether the shot failed by a rule of the league.
+    pub fn is_failed(self, rule: LeagueRule) -> bool
+        ensures { λ r. ⌜ r ≡ flightV1Failed rule self ⌝ }
+    {
+        failed(rule, self.ball_velocity, self.flight_time, self.distance)
+    }
+
     // The device woke and tracked no ball: no ball velocity.
     pub fn is_no_read(self) -> bool
         ensures { λ r. ⌜ r ≡ noRead self ⌝ }
     {
-        no_speed(self.ball_velocity)
+        self.is_failed(LeagueRule::Rule1)
     }
 
     pub fn decode(payload: &[u8]) -> ResultFlightResultV1

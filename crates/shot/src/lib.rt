@@ -3,6 +3,8 @@
 pub use club_prc::ClubPrc;
 pub use club_prc::ClubPrcPoint;
 pub use club_prc::ResultClubPrcPoint;
+pub use failure::LeagueRule;
+pub use failure::ResultLeagueRule;
 pub use flight::ClubResult;
 pub use flight::FlightResult;
 pub use flight::FlightResultV1;

@@ -1,12 +1,12 @@
--- `no_speed` meets its contract: a float differs from itself exactly where it is not a number.
+-- `below_zero` meets its contract: a float differs from itself exactly where it is not a number.
 -- So the code's first test is the rule's first case, and its second the other.
 use mathlib.Core.Path.{_≡_, refl, sym, _∙_, ap, subst}
 use mathlib.Core.Bool.{Bool, true, false}
 use lib.Dec.{T}
 use lib.Ieee.{Float, nan, inf, fin, isNan, ne, ofBits}
 use lib.Ieee.Compare.{differs-from-itself, nan-differs}
-use Rattle.failure.proofs.no_speed.Statement.{statement}
-use Rattle.failure.proofs.no_speed.Tie as tie
+use Rattle.failure.proofs.below_zero.Statement.{statement}
+use Rattle.failure.proofs.below_zero.Tie as tie
 
 differs : (x : Float) (b : Bool) → ne x x ≡ b → isNan x ≡ b
 unfolding isNan
@@ -25,5 +25,5 @@ returns-2 : tie.Need-returns-2
 unfolding ofBits
 returns-2 c = simp (nan-is (c .before .args .v), c .if1 .left)
 
-pub no-speed-spec : {M : Type 1} → statement M
-no-speed-spec = tie.close (tie.spec returns returns-2)
+pub below-zero-spec : {M : Type 1} → statement M
+below-zero-spec = tie.close (tie.spec returns returns-2)
