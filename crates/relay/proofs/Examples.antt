@@ -1,0 +1,78 @@
+-- The relay's laws by example, computed from the definitions; docs/RELAY.md has the same strings.
+-- `no-simpler`: none of the laws holds without its wrap, its order, or the stuffed bytes that an offset counts.
+use mathlib.Core.Path.{_≡_, refl, ap}
+use mathlib.Core.List.{List, [], _∷_, _++_}
+use Prim.Native.Nat.{ℕ, _+_, _<_}
+use native.Mathlib.Omega.{arith}
+use lib.ListN.{length, getD, replicate}
+use Rattle.error.specs.Refusal.{Told, yes, onYes}
+use Rattle.addr.specs.declared.BusAddr.the-variants.{App, Dsp}
+use Rattle.stuffing.specs.Stuff.{escapeOf, unescapeOf, stuffByte, stuff, sum16}
+use Rattle.unstuffing.specs.Unstuff.{escapeBy, stepBy, unstuff, offsetAt}
+use Rattle.encoding.specs.Wire.{fields, bodyOf, checksumOf, wireOf}
+use Rattle.relay.specs.Fragments.{framed}
+
+-- DEST 40, SRC 10, TYPE 01, and document 01's 257 payload bytes FF
+abbrev head : List ℕ
+head = 0x40 ∷ 0x10 ∷ 0x01 ∷ []
+
+abbrev long : List ℕ
+long = replicate 257 0xFF
+
+pub record RelayExamples : Type 0 where
+  -- F0 05, then FA
+  pub joins : stuff (0xF0 ∷ 0x05 ∷ []) ++ stuff (0xFA ∷ []) ≡ 0xFD ∷ 0x01 ∷ 0x05 ∷ 0xFD ∷ 0x04 ∷ []
+  pub joined : stuff (0xF0 ∷ 0x05 ∷ 0xFA ∷ []) ≡ 0xFD ∷ 0x01 ∷ 0x05 ∷ 0xFD ∷ 0x04 ∷ []
+  pub turned : stuff (0xFA ∷ 0xF0 ∷ 0x05 ∷ []) ≡ 0xFD ∷ 0x04 ∷ 0xFD ∷ 0x01 ∷ 0x05 ∷ []
+  -- 81 and 65,535 make 80
+  pub first : sum16 head ≡ 81
+  pub second : sum16 long ≡ 65535
+  pub both : sum16 (head ++ long) ≡ 80
+  pub either : sum16 (long ++ head) ≡ 80
+  -- F0, 05 and FA are the bytes 0, 1 and 2 of their string, and stand stuffed at 0, 2 and 3
+  pub back : unstuff 0 (0xFD ∷ 0x01 ∷ 0x05 ∷ 0xFD ∷ 0x04 ∷ []) ≡ yes ((0xF0, 0) ∷ (0x05, 2) ∷ (0xFA, 3) ∷ [])
+  -- F0, and the bytes that it is stuffed to
+  pub one : stuff (0xF0 ∷ []) ≡ 0xFD ∷ 0x01 ∷ []
+  pub other : stuff (0xFD ∷ 0x01 ∷ []) ≡ 0xFD ∷ 0x03 ∷ 0x01 ∷ []
+  -- the header, F0 05, nothing, FA, with the sums 81, 259, 0 and 257, which make 02 55
+  pub sent : framed (stuff head ++ (stuff (0xF0 ∷ 0x05 ∷ []) ++ (stuff [] ++ stuff (0xFA ∷ [])))) (stuff (0x02 ∷ 0x55 ∷ []))
+      ≡ 0xF0 ∷ 0x40 ∷ 0x10 ∷ 0x01 ∷ 0xFD ∷ 0x01 ∷ 0x05 ∷ 0xFD ∷ 0x04 ∷ 0x02 ∷ 0x55 ∷ 0xF1 ∷ []
+  pub encoded : wireOf (fields Dsp App 0x01 (0xF0 ∷ 0x05 ∷ 0xFA ∷ []))
+      ≡ 0xF0 ∷ 0x40 ∷ 0x10 ∷ 0x01 ∷ 0xFD ∷ 0x01 ∷ 0x05 ∷ 0xFD ∷ 0x04 ∷ 0x02 ∷ 0x55 ∷ 0xF1 ∷ []
+
+pub examples-relay : RelayExamples
+unfolding escapeOf unescapeOf stuffByte sum16 escapeBy stepBy wireOf checksumOf bodyOf
+examples-relay =
+    record {
+      joins = refl;
+      joined = refl;
+      turned = refl;
+      first = refl;
+      second = refl;
+      both = refl;
+      either = refl;
+      back = refl;
+      one = refl;
+      other = refl;
+      sent = refl;
+      encoded = refl;
+    }
+
+-- ---- what no law can do without
+
+pub record NoSimpler : Type 0 where
+  pub wrap : ((s t : List ℕ) → sum16 (s ++ t) ≡ sum16 s + sum16 t) → ⊥
+  pub order : ((s t : List ℕ) → stuff s ++ stuff t ≡ stuff (t ++ s)) → ⊥
+  pub offsets : ((s : List ℕ) (k : ℕ) → k < length s → onYes (λ us. offsetAt us k) (unstuff 0 (stuff s)) ≡ yes k) → ⊥
+
+pub no-simpler : NoSimpler
+unfolding escapeOf unescapeOf stuffByte sum16 escapeBy stepBy
+no-simpler =
+    record {
+      wrap = λ h. let q : _≡_ {A = ℕ} 80 65616 = h head long in omega arith;
+      order = λ h. let q : _≡_ {A = ℕ} 0xFD 0x05 = ap (λ (l : List ℕ). getD l 0 0) (h (0xF0 ∷ []) (0x05 ∷ [])) in omega arith;
+      offsets = λ h.
+          let p : _≡_ {A = Told ℕ} (yes 2) (yes 1) = h (0xF0 ∷ 0x05 ∷ []) 1 (omega arith) in
+          let q : _≡_ {A = ℕ} 2 1 = cc in
+          omega arith;
+    }
