@@ -14,13 +14,17 @@ use Rattle.stuffing.specs.Stuff.{sum16}
 use Rattle.encoding.specs.Wire.{fields, bodyOf, checksumOf, wireOf}
 use Rattle.encoding.specs.Encode.{encodeRule}
 use Rattle.encoding.proofs.Cases.{encode-fits}
-use Rattle.encoding.proofs.encode.Reads as encode
+use Rattle.frame.proofs.RawFrame.encode.Reads as encode
 use Rattle.relay.specs.Operations.{WrittenAs, nothing}
-use Rattle.relay.specs.Fragments.{Relayed, begun, fragment, framed, Fragments}
+use Rattle.relay.specs.Fragments.{Relayed, begun, fragment, wireSent, Fragments}
 use Rattle.relay.proofs.Laws.{laws}
-use Rattle.relay.proofs.Operations.{checksum-is, sum-is, written-is, operations}
+use Rattle.relay.proofs.Operations.{checksum-answer, sum-answer, written-stuffed, operations}
 
 -- ---- fragment by fragment
+
+goes-on : {s out : List ℕ} {sum n : ℕ} → Relayed s sum out n → (t : List ℕ) → length t ≤ 65535
+    → (sum′ : ℕ) × (out′ : List ℕ) × (n′ : ℕ) × Relayed (s ++ t) sum′ out′ n′
+goes-on r t l = (_, _, _, fragment r l (operations .answered t .1 .1) (operations .written t .1))
 
 whole : {s out : List ℕ} {sum n : ℕ} → Relayed s sum out n → WrittenAs s out
 whole begun = nothing
@@ -28,41 +32,42 @@ whole (fragment r l a p) = operations .joins (whole r) p
 
 measured : {s out : List ℕ} {sum n : ℕ} → Relayed s sum out n → n ≡ length out
 measured begun = refl
-measured (fragment {out = out} {w = w} r l a p) = omega (arith, measured r, operations .length-told l a p, length-append out w)
+measured (fragment {out = out} {w = w} r l a p) = omega (arith, measured r, operations .length-ahead l a p, length-append out w)
 
 summed : {s out : List ℕ} {sum n : ℕ} → Relayed s sum out n → sum ≡ sum16 out
 unfolding sum16
 summed begun = refl
-summed (fragment {out = out} {w = w} r l a p) = rw (summed r, sum-is a, ← written-is p) (sym (laws .sums out w))
+summed (fragment {out = out} {w = w} r l a p) = rw (summed r, sum-answer a, ← written-stuffed p) (sym (laws .sums out w))
 
 -- ---- the wire
 
-framed-length : (out end : List ℕ) → length (framed out end) ≡ length out + length end + 2
-framed-length out end = omega (arith, length-append out (end ++ (0xF1 ∷ [])), length-append end (0xF1 ∷ []))
+sent-length : (out end : List ℕ) → length (wireSent out end) ≡ length out + length end + 2
+sent-length out end = omega (arith, length-append out (end ++ (0xF1 ∷ [])), length-append end (0xF1 ∷ []))
 
 module _ (dest src : BusAddr) (type : ℕ) (payload : List ℕ) {out end : List ℕ} {sum n : ℕ}
     (r : Relayed (byteOf dest ∷ byteOf src ∷ type ∷ payload) sum out n) (e : WrittenAs (sum / 256 ∷ sum % 256 ∷ []) end) where
-  wire-is : wireOf (fields dest src type payload) ≡ framed out end
+  wire-is : wireOf (fields dest src type payload) ≡ wireSent out end
   unfolding wireOf checksumOf bodyOf
-  wire-is = rw (written-is e, summed r, written-is (whole r))
+  wire-is = rw (written-stuffed e, summed r, written-stuffed (whole r))
 
-  encoded : length payload ≤ 65535 → (room : ℕ) → n + length end + 2 ≤ room → encodeRule (fields dest src type payload) room ≡ yes (framed out end)
+  encoded : length payload ≤ 65535 → (room : ℕ) → n + length end + 2 ≤ room → encodeRule (fields dest src type payload) room ≡ yes (wireSent out end)
   encoded l room h =
-      let fits : length (wireOf (fields dest src type payload)) ≤ room = omega (arith, ap length wire-is, framed-length out end, measured r) in
+      let fits : length (wireOf (fields dest src type payload)) ≤ room = omega (arith, ap length wire-is, sent-length out end, measured r) in
       encode-fits (fields dest src type payload) room l fits ∙ ap yes wire-is
 
 pub fragments : Fragments
-fragments = record { whole = whole; measured = measured; summed = λ r c. summed r ∙ sym (checksum-is c); encoded = encoded }
+fragments = record { goes-on = goes-on; whole = whole; measured = measured; summed = λ r c. summed r ∙ sym (checksum-answer c); encoded = encoded }
 
--- A call of `encode` with DEST, SRC, TYPE, the whole payload and a wire buffer a that has room: it writes, at the buffer's front, what the relay sent.
+-- A call of `RawFrame::encode` with DEST, SRC, TYPE, the whole payload and a wire buffer a that has room: at its front it writes what the relay sent.
 pub encode-sends-alike : (κs a r x : _) → encode.Post κs a r x
     → {out end : List ℕ} {sum n : ℕ} → Relayed (byteOf (a .0) ∷ byteOf (a .1 .0) ∷ a .1 .1 .0 ∷ a .1 .1 .1 .0 .now) sum out n
     → WrittenAs (sum / 256 ∷ sum % 256 ∷ []) end → length (a .1 .1 .1 .0 .now) ≤ 65535 → n + length end + 2 ≤ length (a .1 .1 .1 .1 .0 .now)
     → (r ≡ Ok (n + length end + 2))
-    × (x .1 .1 .1 .1 .0 .now ≡ framed out end ++ drop (n + length end + 2) (a .1 .1 .1 .1 .0 .now))
+    × (x .1 .1 .1 .1 .0 .now ≡ wireSent out end ++ drop (n + length end + 2) (a .1 .1 .1 .1 .0 .now))
 encode-sends-alike κs a r x p {out} {end} {sum} {n} s e l h =
     let old = a .1 .1 .1 .1 .0 .now in
-    let t : encodeRule (fields (a .0) (a .1 .0) (a .1 .1 .0) (a .1 .1 .1 .0 .now)) (length old) ≡ yes (framed out end) =
+    let t : encodeRule (fields (a .0) (a .1 .0) (a .1 .1 .0) (a .1 .1 .1 .0 .now)) (length old) ≡ yes (wireSent out end) =
     encoded (a .0) (a .1 .0) (a .1 .1 .0) (a .1 .1 .1 .0 .now) s e l (length old) h in
-    let k : length (framed out end) ≡ n + length end + 2 = framed-length out end ∙ rw (measured s) in
-    (one-usize (p .0 ∙ ap (onYes length) t ∙ ap yes k) refl, p .1 ∙ ap (λ (u : Told (List ℕ)). filled u old) t ∙ ap (λ (m : ℕ). framed out end ++ drop m old) k)
+    let k : length (wireSent out end) ≡ n + length end + 2 = sent-length out end ∙ rw (measured s) in
+    let b : filled (yes (wireSent out end)) old ≡ wireSent out end ++ drop (n + length end + 2) old = ap (λ (m : ℕ). wireSent out end ++ drop m old) k in
+    (one-usize (p .0 ∙ ap (onYes length) t ∙ ap yes k) refl, p .1 ∙ ap (λ (u : Told (List ℕ)). filled u old) t ∙ b)

@@ -12,17 +12,21 @@ use Rattle.encoding.specs.Wire.{fields}
 use Rattle.encoding.specs.Encode.{encodeRule}
 use Rattle.relay.specs.Operations.{Checksum, Tally, WrittenAs}
 
--- behind some fragments: what they join to, the running sum, the bytes that were sent, and how many these are; DEST, SRC and TYPE are the first fragment
+-- behind some fragments: what they join to, the running sum, the bytes that were sent, and how many these are; DEST, SRC and TYPE come first,
+-- as a fragment like any other
 pub data Relayed : List ℕ → ℕ → List ℕ → ℕ → Type 0 where
   begun : Relayed [] 0 [] 0
   fragment : {s t out w : List ℕ} {sum n : ℕ} {a : Stuffed} → Relayed s sum out n → length t ≤ 65535 → Tally t a → WrittenAs t w
       → Relayed (s ++ t) ((sum + a .sum) % 65536) (out ++ w) (n + (length t + a .more))
 
--- what is sent in all: the bytes between the marks, and behind them the sum's two
-abbrev pub framed : List ℕ → List ℕ → List ℕ
-framed out end = 0xF0 ∷ (out ++ (end ++ (0xF1 ∷ [])))
+-- what is sent in all: F0, the fragments as they are written, the sum's two bytes as they are written, F1
+abbrev pub wireSent : List ℕ → List ℕ → List ℕ
+wireSent out end = 0xF0 ∷ (out ++ (end ++ (0xF1 ∷ [])))
 
 pub record Fragments : Type 0 where
+  -- each fragment of 65,535 bytes at most can be sent next
+  pub goes-on : {s out : List ℕ} {sum n : ℕ} → Relayed s sum out n → (t : List ℕ) → length t ≤ 65535
+      → (sum′ : ℕ) × (out′ : List ℕ) × (n′ : ℕ) × Relayed (s ++ t) sum′ out′ n′
   -- however a string was cut, it is sent as if it came whole; the count is the length of that, and the sum its checksum
   pub whole : {s out : List ℕ} {sum n : ℕ} → Relayed s sum out n → WrittenAs s out
   pub measured : {s out : List ℕ} {sum n : ℕ} → Relayed s sum out n → n ≡ length out
@@ -31,4 +35,4 @@ pub record Fragments : Type 0 where
   pub encoded : (dest src : BusAddr) (type : ℕ) (payload : List ℕ) {out end : List ℕ} {sum n : ℕ}
       → Relayed (byteOf dest ∷ byteOf src ∷ type ∷ payload) sum out n → WrittenAs (sum / 256 ∷ sum % 256 ∷ []) end
       → length payload ≤ 65535 → (room : ℕ) → n + length end + 2 ≤ room
-      → encodeRule (fields dest src type payload) room ≡ yes (framed out end)
+      → encodeRule (fields dest src type payload) room ≡ yes (wireSent out end)
