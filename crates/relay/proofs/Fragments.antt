@@ -1,5 +1,5 @@
 -- What a relay sends of a payload in fragments is the wire of the whole: each part is the relay's laws again, one fragment at a time.
--- So it is what `encode` writes, by its contract as the check reads it off src/ (`Post`).
+-- So it is what `RawFrame::encode` writes, by its contract as the check reads it off src/ (`Post`).
 use mathlib.Core.Path.{_≡_, refl, sym, ap, _∙_}
 use mathlib.Core.List.{List, [], _∷_, _++_}
 use Prim.Native.Nat.{ℕ, _+_, _/_, _%_, _≤_}
@@ -22,9 +22,9 @@ use Rattle.relay.proofs.Operations.{checksum-answer, sum-answer, writte
 
 -- ---- fragment by fragment
 
-goes-on : {s out : List ℕ} {sum n : ℕ} → Relayed s sum out n → (t : List ℕ) → length t ≤ 65535
+sends-next : {s out : List ℕ} {sum n : ℕ} → Relayed s sum out n → (t : List ℕ) → length t ≤ 65535
     → (sum′ : ℕ) × (out′ : List ℕ) × (n′ : ℕ) × Relayed (s ++ t) sum′ out′ n′
-goes-on r t l = (_, _, _, fragment r l (operations .answered t .1 .1) (operations .written t .1))
+sends-next r t l = (_, _, _, fragment r l (operations .answered t .1 .1) (operations .written t .1))
 
 whole : {s out : List ℕ} {sum n : ℕ} → Relayed s sum out n → WrittenAs s out
 whole begun = nothing
@@ -46,17 +46,17 @@ sent-length out end = omega (arith, length-append out (end ++ (0xF1 ∷ [])), le
 
 module _ (dest src : BusAddr) (type : ℕ) (payload : List ℕ) {out end : List ℕ} {sum n : ℕ}
     (r : Relayed (byteOf dest ∷ byteOf src ∷ type ∷ payload) sum out n) (e : WrittenAs (sum / 256 ∷ sum % 256 ∷ []) end) where
-  wire-is : wireOf (fields dest src type payload) ≡ wireSent out end
+  wire-relayed : wireOf (fields dest src type payload) ≡ wireSent out end
   unfolding wireOf checksumOf bodyOf
-  wire-is = rw (written-stuffed e, summed r, written-stuffed (whole r))
+  wire-relayed = rw (written-stuffed e, summed r, written-stuffed (whole r))
 
   encoded : length payload ≤ 65535 → (room : ℕ) → n + length end + 2 ≤ room → encodeRule (fields dest src type payload) room ≡ yes (wireSent out end)
   encoded l room h =
-      let fits : length (wireOf (fields dest src type payload)) ≤ room = omega (arith, ap length wire-is, sent-length out end, measured r) in
-      encode-fits (fields dest src type payload) room l fits ∙ ap yes wire-is
+      let fits : length (wireOf (fields dest src type payload)) ≤ room = omega (arith, ap length wire-relayed, sent-length out end, measured r) in
+      encode-fits (fields dest src type payload) room l fits ∙ ap yes wire-relayed
 
 pub fragments : Fragments
-fragments = record { goes-on = goes-on; whole = whole; measured = measured; summed = λ r c. summed r ∙ sym (checksum-answer c); encoded = encoded }
+fragments = record { sends-next = sends-next; whole = whole; measured = measured; summed = λ r c. summed r ∙ sym (checksum-answer c); encoded = encoded }
 
 -- A call of `RawFrame::encode` with DEST, SRC, TYPE, the whole payload and a wire buffer a that has room: at its front it writes what the relay sent.
 pub encode-sends-alike : (κs a r x : _) → encode.Post κs a r x

@@ -5,6 +5,7 @@ use mathlib.Core.List.{List, [], _∷_, _++_}
 use Prim.Native.Nat.{ℕ, _+_, _-_, _%_}
 use native.Mathlib.Omega.{arith}
 use lib.ListN.{length, length-append}
+use base.Fml.{Lft}
 use denote.Ref.{RefT}
 use Rattle.general.proofs.Cases.{by-eq}
 use Rattle.general.proofs.One.{plain}
@@ -17,10 +18,13 @@ use Rattle.stuffing.specs.Stuff.{escapeOf, stuff, sum16}
 use Rattle.stuffing.specs.declared.summing.Stuffed.{Stuffed}
 use Rattle.stuffing.proofs.Codes.{plain as stands, escaped}
 use Rattle.stuffing.proofs.Stuffing.{stuff-append, stuff-least}
+use Rattle.stuffing.proofs.checksum.Reads as checksum
+use Rattle.stuffing.proofs.tally.Reads as tally
 use Rattle.unstuffing.specs.Unstuff.{unstuff}
 use Rattle.unstuffing.proofs.Unstuffing.{unstuff-stuff, length-placed}
+use Rattle.unstuffing.proofs.unstuffed.Reads as unstuffed
 use Rattle.encoding.proofs.Writing.{tallied}
-use Rattle.relay.specs.Operations.{EscapeCode, Checksum, Tally, Unstuffed, WrittenAs, nothing, itself, coded, Operations}
+use Rattle.relay.specs.Operations.{Allows, EscapeCode, Checksum, Tally, Unstuffed, WrittenAs, nothing, itself, coded, Operations}
 use Rattle.relay.proofs.Laws.{laws}
 
 -- ---- each answer, by its contract
@@ -31,7 +35,7 @@ code-answer p = p .4 ∙ ap escapeOf (p .3)
 pub checksum-answer : {s : List ℕ} {c : ℕ} → Checksum s c → c ≡ sum16 s
 checksum-answer p = p .4 ∙ ap sum16 (p .3)
 
-more-answer : {s : List ℕ} {a : Stuffed} → Tally s a → a .more ≡ (length (stuff s) - length s) % 65536
+pub more-answer : {s : List ℕ} {a : Stuffed} → Tally s a → a .more ≡ (length (stuff s) - length s) % 65536
 more-answer p = p .4 .0 ∙ ap (λ (l : List ℕ). (length (stuff l) - length l) % 65536) (p .3)
 
 pub sum-answer : {s : List ℕ} {a : Stuffed} → Tally s a → a .sum ≡ sum16 (stuff s)
@@ -45,17 +49,16 @@ unstuffed-answer r p = p .4 ∙ ap (λ (l : List ℕ). onYes length (unstuff 0 l
 code-of : (b : ℕ) → EscapeCode b (escapeOf b)
 code-of b = (tt, (b, tt), (b, tt), refl, refl)
 
-abbrev slice : List ℕ → RefT (List ℕ)
-slice s = record { ptr = (0, 0); name = 0; now = s }
+abbrev slice : List ℕ → RefT (List ℕ) × Unit {0}
+slice s = (record { ptr = (0, 0); name = 0; now = s }, tt)
 
-checksum-of : (s : List ℕ) → Checksum s (sum16 s)
-checksum-of s = (([], tt), (slice s, tt), (slice s, tt), refl, refl)
+-- a call that is given a string and answers r, by any contract of such calls
+called : {R : Type 0} (Post : (κs : Lft × Unit {0}) → RefT (List ℕ) × Unit {0} → R → RefT (List ℕ) × Unit {0} → Type 0) (s : List ℕ) (r : R)
+    → Post ([], tt) (slice s) r (slice s) → Allows Post (λ κs a. a .0 .now) s r
+called Post s r p = (([], tt), slice s, slice s, refl, p)
 
-tally-of : (s : List ℕ) → Tally s (record { more = (length (stuff s) - length s) % 65536; sum = sum16 (stuff s) })
-tally-of s = (([], tt), (slice s, tt), (slice s, tt), refl, (refl, refl))
-
-unstuffed-of : (w : List ℕ) (n : ℕ) → yes n ≡ onYes length (unstuff 0 w) → Unstuffed w (Ok n)
-unstuffed-of w n e = (([], tt), (slice w, tt), (slice w, tt), refl, e)
+abbrev tallyOf : List ℕ → Stuffed
+tallyOf s = record { more = (length (stuff s) - length s) % 65536; sum = sum16 (stuff s) }
 
 -- ---- a string as it is written
 
@@ -90,17 +93,16 @@ pub operations : Operations
 operations =
     record {
       written = λ s. (stuff s, stuff-written s);
-      answered = λ s. ((sum16 s, checksum-of s), (_, tally-of s));
+      answered = λ s. ((sum16 s, called checksum.Post s (sum16 s) refl), (tallyOf s, called tally.Post s (tallyOf s) (refl, refl)));
       joins = joins;
       only = λ p q. plain (written-stuffed p) (written-stuffed q);
       checksums = λ {s} {t} a b c. rw (checksum-answer a, checksum-answer b, checksum-answer c) (laws .sums s t, laws .either s t);
       tallies = λ {s} {t} a b c. (
-        rw (more-answer a, more-answer b, more-answer c) (omega (arith, more-joined s t)),
-        rw (sum-answer a, sum-answer b, sum-answer c, ← laws .joins s t) (laws .sums (stuff s) (stuff t)),
-        rw (sum-answer a, sum-answer b, sum-answer c, ← laws .joins s t) (laws .either (stuff s) (stuff t)),
+        rw (more-answer a, more-answer b, more-answer c) (omega (arith, more-joined s t), omega (arith, more-joined s t)),
+        rw (sum-answer a, sum-answer b, sum-answer c, ← laws .joins s t) (laws .sums (stuff s) (stuff t), laws .either (stuff s) (stuff t)),
       );
       sum-ahead = λ a p c. rw (sum-answer a, checksum-answer c, written-stuffed p);
       length-ahead = λ {s} h a p. rw (written-stuffed p) (omega (arith, tallied s (more-answer a) h));
-      back = λ {s} {w} p. (unstuffed-of w (length s) (sym (unstuffs-to p)), λ r u. one-usize (unstuffed-answer r u ∙ unstuffs-to p) refl);
+      back = λ {s} {w} p. (called unstuffed.Post w (Ok (length s)) (sym (unstuffs-to p)), λ r u. one-usize (unstuffed-answer r u ∙ unstuffs-to p) refl);
       apart = λ {s} {t} p q. laws .apart s t (sym (written-stuffed p) ∙ written-stuffed q);
     }

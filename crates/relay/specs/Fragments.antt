@@ -1,4 +1,4 @@
--- A payload that comes in fragments and is not held: a relay keeps a running sum and a count, and what it sends is what `encode` writes of the whole.
+-- A payload that comes in fragments and is not held: a relay keeps a running sum and a count, and it sends what `RawFrame::encode` writes of the whole.
 -- `Relayed` is what it does with each fragment; the theorem `fragments` (proofs/Fragments) has the type `Fragments`.
 use Prim.Native.Nat.{ℕ, _+_, _/_, _%_, _≤_}
 use mathlib.Core.Path.{_≡_}
@@ -25,7 +25,7 @@ wireSent out end = 0xF0 ∷ (out ++ (end ++ (0xF1 ∷ [])))
 
 pub record Fragments : Type 0 where
   -- each fragment of 65,535 bytes at most can be sent next
-  pub goes-on : {s out : List ℕ} {sum n : ℕ} → Relayed s sum out n → (t : List ℕ) → length t ≤ 65535
+  pub sends-next : {s out : List ℕ} {sum n : ℕ} → Relayed s sum out n → (t : List ℕ) → length t ≤ 65535
       → (sum′ : ℕ) × (out′ : List ℕ) × (n′ : ℕ) × Relayed (s ++ t) sum′ out′ n′
   -- however a string was cut, it is sent as if it came whole; the count is the length of that, and the sum its checksum
   pub whole : {s out : List ℕ} {sum n : ℕ} → Relayed s sum out n → WrittenAs s out

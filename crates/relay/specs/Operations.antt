@@ -38,18 +38,22 @@ pub data WrittenAs : List ℕ → List ℕ → Type 0 where
 
 -- ---- the laws
 
+-- c is the sum of a and b, wrapped at 65,536, in either order
+abbrev pub Wrapped : ℕ → ℕ → ℕ → Type 0
+Wrapped a b c = (c ≡ (a + b) % 65536) × (c ≡ (b + a) % 65536)
+
 pub record Operations : Type 0 where
-  -- no law here is about nothing: each string is written in some way, and each contract allows some answer to it
+  -- no law here is about nothing: each string is written in some way, and `checksum` and `tally` have some answer to it
   pub written : (s : List ℕ) → (w : List ℕ) × WrittenAs s w
   pub answered : (s : List ℕ) → ((c : ℕ) × Checksum s c) × ((a : Stuffed) × Tally s a)
   -- "Stuffing two byte strings one after the other is the stuffing of both joined"; and no string is written in two ways
   pub joins : {s t w v : List ℕ} → WrittenAs s w → WrittenAs t v → WrittenAs (s ++ t) (w ++ v)
   pub only : {s w v : List ℕ} → WrittenAs s w → WrittenAs s v → w ≡ v
   -- "The sum of joined strings is the sum of the two sums, wrapped at 65,536, in either order": of bytes as they stand,
-  pub checksums : {s t : List ℕ} {a b c : ℕ} → Checksum s a → Checksum t b → Checksum (s ++ t) c → (c ≡ (a + b) % 65536) × (c ≡ (b + a) % 65536)
+  pub checksums : {s t : List ℕ} {a b c : ℕ} → Checksum s a → Checksum t b → Checksum (s ++ t) c → Wrapped a b c
   -- and of bytes to be stuffed, with the number of bytes that stuffing adds
   pub tallies : {s t : List ℕ} {a b c : Stuffed} → Tally s a → Tally t b → Tally (s ++ t) c
-      → (c .more ≡ (a .more + b .more) % 65536) × (c .sum ≡ (a .sum + b .sum) % 65536) × (c .sum ≡ (b .sum + a .sum) % 65536)
+      → Wrapped (a .more) (b .more) (c .more) × Wrapped (a .sum) (b .sum) (c .sum)
   -- what `tally` tells ahead, of a string that is still to be written: the checksum of what will be written,
   pub sum-ahead : {s w : List ℕ} {a : Stuffed} {c : ℕ} → Tally s a → WrittenAs s w → Checksum w c → a .sum ≡ c
   -- and, of a string of 65,535 bytes at most, how long that will be
