@@ -17,7 +17,6 @@ use Rattle.abi_codec.proofs.writes.mvd_write_int24.Reads as write-int24
 use Rattle.abi_codec.proofs.writes.mvd_write_uint24.Reads as write-uint24
 use Rattle.abi_codec.proofs.writes.mvd_write_int32.Reads as write-int32
 use Rattle.abi_codec.proofs.writes.mvd_write_uint32.Reads as write-uint32
-use Rattle.abi_codec.proofs.writes.mvd_write_float40.Reads as write-float40
 use Rattle.abi_codec.proofs.writes.mvd_write_float40_bits.Reads as write-float40-bits
 
 pub one-read-int16 : (κs a r s x y : _) → read-int16.Post κs a r x → read-int16.Post κs a s y
@@ -79,10 +78,6 @@ one-write-int32 κs a r s x y = one-stored
 pub one-write-uint32 : (κs a r s x y : _) → write-uint32.Post κs a r x → write-uint32.Post κs a s y
     → (r ≡ s) × (x .0 .now ≡ y .0 .now) × (x .1 .1 .1 .0 .now ≡ y .1 .1 .1 .0 .now)
 one-write-uint32 κs a r s x y = one-stored
-
-pub one-write-float40 : (κs a r s x y : _) → write-float40.Post κs a r x → write-float40.Post κs a s y
-    → (r ≡ s) × (x .0 .now ≡ y .0 .now) × (x .1 .1 .1 .0 .now ≡ y .1 .1 .1 .0 .now)
-one-write-float40 κs a r s x y = one-stored
 
 pub one-write-float40-bits : (κs a r s x y : _) → write-float40-bits.Post κs a r x → write-float40-bits.Post κs a s y
     → (r ≡ s) × (x .0 .now ≡ y .0 .now) × (x .1 .1 .1 .0 .now ≡ y .1 .1 .1 .0 .now)

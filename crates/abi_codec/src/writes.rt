@@ -2,7 +2,7 @@
 // A refusal keeps the buffer; a field that is written keeps the three words.
 ghost use mathlib.Core.Path.{_≡_};
 ghost use Rattle.integer_write.specs.Writing.{bytesOf, intBytes, writing, written};
-ghost use Rattle.float40_write.specs.Writing.{bytes40, bits64};
+ghost use Rattle.float40_write.specs.Writing.{bytes40};
 ghost use Rattle.abi.specs.Answer.{Passed};
 use abi::unit;
 
@@ -82,19 +82,6 @@ pub extern "C" fn mvd_write_uint32(
     ensures { λ _. ⌜ now (buf .exit) ≡ written (bytesOf 4 val) (now (buf .entry)) offset ⌝ }
 {
     unit(integer_write::write_uint32(buf, offset, val), values)
-}
-
-#[no_mangle]
-pub extern "C" fn mvd_write_float40(
-    buf: &mut [u8],
-    offset: usize,
-    value: f64,
-    values: &mut [u64; 3],
-) -> u64
-    ensures { λ k. ⌜ Passed (writing (bytes40 (bits64 value)) (now (buf .entry)) offset) tt (now (values .entry)) k tt (now (values .exit)) ⌝ }
-    ensures { λ _. ⌜ now (buf .exit) ≡ written (bytes40 (bits64 value)) (now (buf .entry)) offset ⌝ }
-{
-    unit(float40_write::write_float40(buf, offset, value), values)
 }
 
 #[no_mangle]

@@ -1,4 +1,3 @@
--- The laws of a text that is laid.
--- And that no two replies are allowed.
-pub mod Laid
+-- No two replies are allowed.
+-- It is all that this crate proves beside its contracts.
 pub mod One

@@ -1,3 +1,3 @@
--- E5's text as C takes it.
+-- The answer to a search as C takes it.
 -- Its contracts cite no other definition of this crate.
-pub mod Text
+pub mod Flags

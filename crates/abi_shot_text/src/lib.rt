@@ -1,23 +1,20 @@
-// E5 for C: the text to the front of a lent buffer, and whether a word stands in it.
-// What a call tells, and the buffer, is the rule of the function of that name; specs/Text says what stands where.
+// E5 for C: where the text lies in its payload, and whether a word stands in a text.
+// What a call tells, and every lent place, is the rule of the function of that name.
 ghost use mathlib.Core.Path.{_≡_};
-ghost use lib.ListN.{length};
-ghost use Rattle.shot_text.specs.Trim.{textOf};
+ghost use Rattle.shot_text.specs.Trim.{placeOf};
 ghost use Rattle.shot_text.specs.Search.{Stands, bytes};
-ghost use Rattle.abi_shot_text.specs.Text.{laid, Flags};
+ghost use Rattle.abi_shot_text.specs.Flags.{Flags};
 use abi::flag;
-use points::least;
 use shot_text::ShotText;
 
-// The text to the front of a buffer, as much as fits; answers its length.
 #[no_mangle]
-pub extern "C" fn mvd_shot_text(payload: &[u8], text: &mut [u8]) -> usize
-    ensures { λ n. ⌜ n ≡ length (textOf (now (payload .entry))) ⌝ }
-    ensures { λ n. ⌜ now (text .exit) ≡ laid (textOf (now (payload .entry))) (now (text .entry)) ⌝ }
+pub extern "C" fn mvd_shot_text(payload: &[u8], start: &mut usize, len: &mut usize)
+    ensures { λ _. ⌜ now (start .exit) ≡ placeOf (now (payload .entry)) .start ⌝ }
+    ensures { λ _. ⌜ now (len .exit) ≡ placeOf (now (payload .entry)) .len ⌝ }
 {
-    let part = ShotText::decode(payload);
-    lay(part, text);
-    part.len()
+    let place = ShotText::place(payload);
+    *start = place.start;
+    *len = place.len;
 }
 
 #[no_mangle]
@@ -39,15 +36,4 @@ pub extern "C" fn mvd_is_trigger(text: &[u8]) -> u8
     ensures { λ r. ⌜ Flags (Stands (bytes "BALL TRIGGER") (now (text .entry))) r ⌝ }
 {
     flag(ShotText::is_trigger(text))
-}
-
-fn lay(xs: &[u8], out: &mut [u8])
-    ensures { λ _. ⌜ now (out .exit) ≡ laid (now (xs .entry)) (now (out .entry)) ⌝ }
-{
-    let n = least(xs.len(), out.len());
-    let mut i = 0;
-    while i < n {
-        out[i] = xs[i];
-        i += 1;
-    }
 }

@@ -1,17 +1,22 @@
--- How the splitter's state and answer pass to C: a mark is 0 or another number.
+-- How the splitter's state and answer pass to C: a mark is 0 or 1, and another number makes a bad state.
 -- An answer is five words: 0 More, 1 Frame or 2 Overlong; the bytes taken; and a frame's place, 0 where there is none.
 use Prim.Native.Nat.{ℕ}
-use mathlib.Core.Bool.{not}
+use mathlib.Core.Bool.{cond}
 use mathlib.Core.List.{List, [], _∷_}
-use lib.Dec.{eqb}
-use Rattle.error.specs.Refusal.{Told, onYes}
+use lib.Dec.{eqb, ltb}
+use Rattle.error.specs.Refusal.{Told, no, onYes}
 use Rattle.splitter.specs.declared.FrameSplitter.{FrameSplitter}
 use Rattle.splitter.specs.declared.Place.{Place}
-use Rattle.splitter.specs.Feed.{Answer, more, overlong, frame, Given}
+use Rattle.splitter.specs.Feed.{Answer, more, overlong, frame, Given, given, feedRule}
 use Rattle.abi.specs.Answer.{flagOf}
 
 abbrev pub stateOf : ℕ → ℕ → FrameSplitter
-stateOf count mark = record { count = count; skipping = not (eqb mark 0) }
+stateOf count mark = record { count = count; skipping = eqb mark 1 }
+
+-- what a call gives, from a count and a mark
+unfoldable pub feedFrom : ℕ → ℕ → List ℕ → List ℕ → Given
+feedFrom count mark hold chunk =
+    cond (ltb 1 mark) (given (no 9 []) 0 (stateOf count mark) hold) (feedRule (stateOf count mark) hold chunk)
 
 -- which event, the bytes taken, and of a frame: whether it lies in the hold, its start and its length
 unfoldable pub fedOf : ℕ → Answer Place → List ℕ

@@ -1,11 +1,11 @@
 // The splitter for C: its state lies in two lent places, and `feed` answers five words.
-// What the call tells, and every lent place, is the rule of `FrameSplitter::feed`; a refusal alters none of them but `values`.
+// What the call tells, and every lent place, is the rule of `FrameSplitter::feed`; a mark that is neither 0 nor 1 is a bad state.
 ghost use mathlib.Core.Path.{_≡_};
-ghost use Rattle.splitter.specs.Feed.{feedRule};
 ghost use Rattle.abi.specs.Answer.{flagOf, Passed};
-ghost use Rattle.abi_splitter.specs.Fed.{stateOf, leftBy};
+ghost use Rattle.abi_splitter.specs.Fed.{feedFrom, leftBy};
 use abi::flag;
 use abi::tell;
+use error::WireError;
 use splitter::Event;
 use splitter::FrameSplitter;
 
@@ -18,15 +18,18 @@ pub extern "C" fn mvd_feed(
     fed: &mut [u64; 5],
     values: &mut [u64; 3],
 ) -> u64
-    ensures reply { λ k. ⌜ Passed (leftBy (feedRule (stateOf (now (count .entry)) (now (skipping .entry))) (now (hold .entry)) (now (chunk .entry))))
+    ensures reply { λ k. ⌜ Passed (leftBy (feedFrom (now (count .entry)) (now (skipping .entry)) (now (hold .entry)) (now (chunk .entry))))
         (now (count .entry), now (skipping .entry), now (fed .entry)) (now (values .entry))
         k (now (count .exit), now (skipping .exit), now (fed .exit)) (now (values .exit)) ⌝ }
     ensures bytes { λ k. ⌜ now (hold .exit)
-        ≡ feedRule (stateOf (now (count .entry)) (now (skipping .entry))) (now (hold .entry)) (now (chunk .entry)) .hold ⌝ }
+        ≡ feedFrom (now (count .entry)) (now (skipping .entry)) (now (hold .entry)) (now (chunk .entry)) .hold ⌝ }
 {
+    if 1 < *skipping {
+        return tell(WireError::BadState, values);
+    }
     let state = FrameSplitter {
         count: *count,
-        skipping: *skipping != 0,
+        skipping: *skipping == 1,
     };
     let r = state.feed(hold, chunk);
     let event = r.event;

@@ -7,6 +7,7 @@ ghost use Rattle.session.specs.Program.{Reached};
 use error::ResultUsize;
 use session::Session;
 
+// Where a read or a write fails, that is told and there is no line at the end: the lines are not the whole capture's.
 // No contract can speak of standard input and output, and nothing is lent or answered: it is proved safe, and that it ends.
 pub fn print_all()
     ensures { λ r. ⌜ r ≡ tt ⌝ }
@@ -14,10 +15,19 @@ pub fn print_all()
     let mut hold = [0u8; 2048];
     let mut piece = [0u8; 8192];
     let mut lines = line_buffer();
-    let session = read_all(&mut hold, &mut piece, &mut lines);
-    let splitter = session.splitter;
-    let reply = report::end_line(splitter.count, splitter.skipping, &mut lines);
-    print(reply, &lines);
+    let read = read_all(&mut hold, &mut piece, &mut lines);
+    if read.is_whole {
+        let session = read.session;
+        let splitter = session.splitter;
+        let reply = report::end_line(splitter.count, splitter.skipping, &mut lines);
+        print(reply, &lines);
+    }
+}
+
+// The session after the last piece, and whether that was the end of the input.
+struct Read {
+    session: Session,
+    is_whole: bool,
 }
 
 // Room for the lines of a piece of 8,192 bytes. The contract gives the length, which lending it needs.
@@ -31,16 +41,17 @@ fn line_buffer() -> [u8; 1048576]
 // one that calls of `piece` lead to, each with room for its lines.
 // A proved loop has to end, and nothing says that the input does: the turns are counted down from a
 // number that no run uses up.
-fn read_all(hold: &mut [u8], piece: &mut [u8], lines: &mut [u8]) -> Session
+fn read_all(hold: &mut [u8], piece: &mut [u8], lines: &mut [u8]) -> Read
     requires { ⌜ (length (now piece) ≡ 8192) × (length (now lines) ≡ 1048576) ⌝ }
-    ensures { λ r. ⌜ Reached (now (hold .entry)) (stage r (now (hold .exit))) ⌝ }
+    ensures { λ r. ⌜ Reached (now (hold .entry)) (stage (r .session) (now (hold .exit))) ⌝ }
 {
     let mut session = Session::new();
+    let mut is_whole = false;
     let mut turns = u64::MAX;
     while turns > 0 {
-        let got = libc::read(libc::STDIN_FILENO, piece);
+        let got = program::read(b"frames", piece);
         if got <= 0 {
-            told(got);
+            is_whole = got == 0;
             break;
         }
         let n = io::count(got, piece);
@@ -52,26 +63,9 @@ fn read_all(hold: &mut [u8], piece: &mut [u8], lines: &mut [u8]) -> Session
         }
         turns -= 1;
     }
-    session
-}
-
-// Nothing came: a failure is told, an end is not.
-fn told(got: isize) {
-    if got < 0 {
-        io::write_all(
-            libc::STDERR_FILENO,
-            b"frames: standard input cannot be read\n",
-        );
-    }
+    Read { session, is_whole }
 }
 
 fn print(reply: ResultUsize, lines: &[u8]) -> bool {
-    let written = io::write_all(libc::STDOUT_FILENO, session::text_of(reply, lines));
-    if !written {
-        io::write_all(
-            libc::STDERR_FILENO,
-            b"frames: standard output cannot be written\n",
-        );
-    }
-    written
+    program::write(b"frames", session::text_of(reply, lines))
 }

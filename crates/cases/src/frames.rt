@@ -1,37 +1,35 @@
 // Frames and the splitter: the operations 20 (open), 21 (encode), 22 (split), 23 (a state) and 24 (copy_payload).
 // The case's numbers are the lent buffer's length, DEST, SRC and TYPE, H, and the sizes of the chunks offered in turn.
-use crate::lent;
+use crate::case::cut;
+use crate::case::lent;
+use crate::case::number;
+use crate::case::within;
 use crate::say;
-use crate::within;
-use libc::STDOUT_FILENO;
 
-pub(crate) fn open(wire: &[u8]) {
+pub(crate) fn open(wire: &[u8], out: &mut [u8]) -> usize {
     let mut header = [0u64; 4];
     let mut values = [0u64; 3];
     let k = abi_frame::mvd_open(wire, &mut header, &mut values);
-    say::told(k, &values);
-    if k == 0 {
-        let words = &header;
-        say::wholes(words, 4);
+    if k != 0 {
+        return say::refused(k, &values, out);
     }
-    say::end();
+    let words = &header;
+    let at = say::decimal(0, out, 0);
+    let at = say::wholes(words, 4, out, at);
+    say::end(out, at)
 }
 
-pub(crate) fn copy_payload(a: usize, wire: &[u8]) {
+pub(crate) fn copy_payload(a: usize, wire: &[u8], out: &mut [u8]) -> usize {
     let mut room = lent();
     let n = within(a, &room);
     let buf = &mut room[..n];
     let mut length = 0usize;
     let mut values = [0u64; 3];
     let k = abi_frame::mvd_copy_payload(wire, buf, &mut length, &mut values);
-    say::told(k, &values);
-    if k == 0 {
-        say::whole(length as u64);
-    }
-    say::bytes(buf);
+    say::filled(k, &values, length, buf, out)
 }
 
-pub(crate) fn encode(head: &[u8], b: u64, payload: &[u8]) {
+pub(crate) fn encode(head: &[u8], b: u64, payload: &[u8], out: &mut [u8]) -> usize {
     let mut room = lent();
     let n = within(b as usize, &room);
     let wire = &mut room[..n];
@@ -46,81 +44,136 @@ pub(crate) fn encode(head: &[u8], b: u64, payload: &[u8]) {
         &mut length,
         &mut values,
     );
-    say::told(k, &values);
-    if k == 0 {
-        say::whole(length as u64);
-    }
-    say::bytes(wire);
+    say::filled(k, &values, length, wire, out)
 }
 
-// An empty chunk, offered to a state that the case gives, with a hold buffer of the case's length.
-pub(crate) fn state(a: usize, head: &[u8], data: &[u8]) {
-    let mut room = lent();
-    let n = within(data.len(), &room);
-    let start = Splitter {
-        count: a,
+// A stream to a fresh splitter, in chunks of four sizes in turn: 64 each where all are 0.
+pub(crate) fn split(head: &[u8], stream: &[u8], out: &mut [u8]) -> usize {
+    let b = number(head, 9);
+    let sizes = if b == 0 { 0x0040_0040_0040_0040 } else { b };
+    let fresh = Splitter {
+        count: 0,
+        skipping: 0,
+        at: 0,
+        told: 0,
+        to: 0,
+    };
+    both(fresh, number(head, 1) as usize, sizes, stream, out)
+}
+
+// A chunk, at once, to a state that the case gives: the mark is the second number's low byte, H the rest of it.
+pub(crate) fn state(head: &[u8], chunk: &[u8], out: &mut [u8]) -> usize {
+    let given = Splitter {
+        count: number(head, 1) as usize,
         skipping: integer::byte_at(head, 16),
         at: 0,
         told: 0,
+        to: 0,
     };
-    let state = feed(start, b"", 0, &mut room[..n], false);
-    io::print_decimal(STDOUT_FILENO, state.told);
-    say::end();
+    both(
+        given,
+        (number(head, 9) >> 8) as usize,
+        0xFFFF_FFFF_FFFF_FFFF,
+        chunk,
+        out,
+    )
 }
 
-// The stream twice: first the frames' lengths, and the state at the end; then their bytes, and those held.
-pub(crate) fn split(a: usize, b: u64, stream: &[u8]) {
-    let mut room = lent();
-    let n = within(a, &room);
-    let hold = &mut room[..n];
-    let sizes = if b == 0 { 0x4040_4040_4040_4040 } else { b };
-    io::print_decimal(STDOUT_FILENO, 0);
-    let state = offer(sizes, stream, hold, false);
-    say::whole(state.count as u64);
-    say::whole(state.skipping as u64);
-    io::write_all(STDOUT_FILENO, b" :");
-    offer(sizes, stream, hold, true);
-    say::hex(cut(hold, 0, state.count));
-    io::write_all(STDOUT_FILENO, b"\n");
-}
-
+// A splitter's state, where the stream and the answer line stand, and what the last call answered.
 struct Splitter {
     count: usize,
     skipping: u8,
     at: usize,
     told: u64,
+    to: usize,
 }
 
-// Chunks of the eight sizes in turn, each until all of it is taken; `shown` says whether bytes are printed or lengths.
-// No stream takes as many turns.
-fn offer(first: u64, stream: &[u8], hold: &mut [u8], shown: bool) -> Splitter {
-    let mut state = Splitter {
-        count: 0,
-        skipping: 0,
-        at: 0,
-        told: 0,
-    };
+// The stream twice, each time from the start: first the frames' lengths, and the state at the end; then their bytes, and those held.
+fn both(start: Splitter, h: usize, sizes: u64, stream: &[u8], out: &mut [u8]) -> usize {
+    let end = lengths(start, h, sizes, stream, out);
+    if end.told != 0 {
+        return say::refused(end.told, &[0, 0, 0], out);
+    }
+    contents(start, h, sizes, stream, out, end.to)
+}
+
+fn lengths(start: Splitter, h: usize, sizes: u64, stream: &[u8], out: &mut [u8]) -> Splitter {
+    let mut room = lent();
+    let n = within(h, &room);
+    let at = say::decimal(0, out, 0);
+    let end = offer(moved(start, at), sizes, stream, &mut room[..n], false, out);
+    let at = say::whole(end.count as u64, out, end.to);
+    let at = say::whole(end.skipping as u64, out, at);
+    moved(end, at)
+}
+
+fn contents(
+    start: Splitter,
+    h: usize,
+    sizes: u64,
+    stream: &[u8],
+    out: &mut [u8],
+    at: usize,
+) -> usize {
+    let mut room = lent();
+    let n = within(h, &room);
+    let hold = &mut room[..n];
+    let at = say::text(b" :", out, at);
+    let end = offer(moved(start, at), sizes, stream, hold, true, out);
+    let at = say::hex(cut(hold, 0, end.count), out, end.to);
+    say::text(b"\n", out, at)
+}
+
+// The same state, with another place in the answer line.
+fn moved(state: Splitter, to: usize) -> Splitter {
+    Splitter {
+        count: state.count,
+        skipping: state.skipping,
+        at: state.at,
+        told: state.told,
+        to,
+    }
+}
+
+// Chunks of the four sizes in turn, each until all of it is taken, one at least; `shown` says whether bytes are put or lengths.
+// A proved loop has to end: the turns are counted down from a number that no stream uses up.
+fn offer(
+    start: Splitter,
+    first: u64,
+    stream: &[u8],
+    hold: &mut [u8],
+    shown: bool,
+    out: &mut [u8],
+) -> Splitter {
+    let mut state = start;
     let mut sizes = first;
     let mut end = 0;
-    let mut turn = 0usize;
-    while turn < 4096 {
-        if stream.len() <= state.at {
-            break;
-        }
+    let mut turns = u64::MAX;
+    while turns > 0 {
         if end <= state.at {
             end = within(
-                std::num::wrapping_add_usize(end, (sizes >> 56) as usize),
+                std::num::wrapping_add_usize(end, (sizes >> 48) as usize),
                 stream,
             );
-            sizes = sizes << 8 | sizes >> 56;
+            sizes = sizes << 16 | sizes >> 48;
         }
-        state = feed(state, stream, end, hold, shown);
-        turn += 1;
+        state = feed(state, stream, end, hold, shown, out);
+        if state.told != 0 || stream.len() <= state.at {
+            break;
+        }
+        turns -= 1;
     }
     state
 }
 
-fn feed(state: Splitter, stream: &[u8], end: usize, hold: &mut [u8], shown: bool) -> Splitter {
+fn feed(
+    state: Splitter,
+    stream: &[u8],
+    end: usize,
+    hold: &mut [u8],
+    shown: bool,
+    out: &mut [u8],
+) -> Splitter {
     let mut count = state.count;
     let mut skipping = state.skipping;
     let mut fed = [0u64; 5];
@@ -134,39 +187,40 @@ fn feed(state: Splitter, stream: &[u8], end: usize, hold: &mut [u8], shown: bool
         &mut fed,
         &mut values,
     );
-    event(fed, chunk, hold, shown);
+    let to = event(fed, chunk, hold, shown, out, state.to);
     Splitter {
         count,
         skipping,
         at: std::num::wrapping_add_usize(state.at, fed[1] as usize),
         told,
-    }
-}
-
-// The bytes from a place to another, none where they are not there.
-fn cut(stream: &[u8], at: usize, end: usize) -> &[u8] {
-    if at <= end && end <= stream.len() {
-        &stream[at..end]
-    } else {
-        &stream[..0]
+        to,
     }
 }
 
 // A frame's bytes, or its length, -1 for one above H. Where there is no frame its place is empty.
-fn event(fed: [u64; 5], chunk: &[u8], hold: &[u8], shown: bool) {
+fn event(
+    fed: [u64; 5],
+    chunk: &[u8],
+    hold: &[u8],
+    shown: bool,
+    out: &mut [u8],
+    at: usize,
+) -> usize {
     let kind = fed[0];
     let len = fed[4];
+    let start = fed[3] as usize;
+    let end = std::num::wrapping_add_usize(start, len as usize);
     if shown {
-        let start = fed[3] as usize;
-        let end = std::num::wrapping_add_usize(start, len as usize);
         if fed[2] == 1 {
-            say::hex(cut(hold, start, end));
+            say::hex(cut(hold, start, end), out, at)
         } else {
-            say::hex(cut(chunk, start, end));
+            say::hex(cut(chunk, start, end), out, at)
         }
     } else if kind == 1 {
-        say::whole(len);
+        say::whole(len, out, at)
     } else if kind == 2 {
-        io::write_all(STDOUT_FILENO, b" -1");
+        say::text(b" -1", out, at)
+    } else {
+        at
     }
 }

@@ -1,143 +1,168 @@
-// Replays the fixed list: standard input has the cases, and what is printed is held to the Rust's answers in `stdout` beside src/.
-// A case is a line of hex: an operation, two numbers of eight bytes, and bytes. docs/CASES.md says how the list was made.
-ghost use mathlib.Core.Path.{_≡_};
-ghost use lib.ListN.{length};
-ghost use Rattle.cases.specs.Front.{Front};
-
+// Test: replays the fixed list of the Rust's answers on standard input, a case a line (docs/CASES.md), through the exported library.
+// The gate holds what it prints to `stdout` beside src/. A line that is no case, or asks for more than there is room for, is told by its number, and ends the run.
+mod case;
 mod fields;
 mod frames;
 mod messages;
 mod say;
 
+use crate::case::Fault;
+use crate::case::within;
+
 fn main() {
-    let mut text = text_buffer();
-    let n = io::read_full(libc::STDIN_FILENO, &mut text);
-    replay(&text[..n]);
-}
-
-// What a lent buffer holds before a call.
-pub(crate) fn lent() -> [u8; 1024]
-    ensures { λ r. ⌜ 1024 ≡ length r ⌝ }
-{
-    [0xA5; 1024]
-}
-
-// ---- the parts of a case
-
-// The number of eight bytes at a place of the head.
-pub(crate) fn number(head: &[u8], at: usize) -> u64 {
-    let high = integer::uint32_at(head, at);
-    let low = integer::uint32_at(head, std::num::wrapping_add_usize(at, 4));
-    (high as u64) << 32 | low as u64
-}
-
-// A float by its bits; a NaN is any NaN.
-pub(crate) fn float(bits: u64) -> f64 {
-    if 0x7FF0_0000_0000_0000 < bits % 0x8000_0000_0000_0000 {
-        0.0 / 0.0
-    } else {
-        f64::from_bits(bits)
+    if program::alone(os::arg_count(), b"usage: ./run cases < LIST\n") {
+        let mut piece = io::large_buffer();
+        let mut line = case::line_buffer();
+        let mut out = io::large_buffer();
+        replay(&mut piece, &mut line, &mut out);
     }
 }
 
-// A number of a buffer's bytes: n, or all where there are fewer. `&buf[..n]` then needs no proof.
-pub(crate) fn within(n: usize, buf: &[u8]) -> usize
-    ensures { λ r. ⌜ Front r (now (buf .entry)) ⌝ }
-{
-    if n < buf.len() { n } else { buf.len() }
+// Where the reading stands: the number of the line, how much of it is there, and whether every line so far was answered.
+struct Place {
+    number: u64,
+    len: usize,
+    is_sound: bool,
 }
 
-// Room for the list. The contract gives the length, which lending it needs.
-fn text_buffer() -> [u8; 1048576]
-    ensures { λ r. ⌜ 1048576 ≡ length r ⌝ }
-{
-    [0; 1048576]
-}
-
-// Each line in turn.
-fn replay(text: &[u8]) {
-    let mut start = 0;
-    let mut i = 0;
-    while i < text.len() {
-        if text[i] == 10 {
-            if start <= i {
-                line(&text[start..i]);
+// Each piece of the input in turn. A proved loop has to end: the turns are counted down from a number that no run uses up.
+fn replay(piece: &mut [u8], line: &mut [u8], out: &mut [u8]) {
+    let mut at = Place {
+        number: 1,
+        len: 0,
+        is_sound: true,
+    };
+    let mut turns = u64::MAX;
+    while turns > 0 {
+        let got = program::read(b"cases", piece);
+        if got <= 0 {
+            if got == 0 {
+                ended(at);
             }
-            start = i + 1;
+            break;
+        }
+        let n = io::count(got, piece);
+        at = lines(at, &piece[..n], line, out);
+        if !at.is_sound {
+            break;
+        }
+        turns -= 1;
+    }
+}
+
+// At the end of the input nothing is left of a line.
+fn ended(at: Place) {
+    if 0 < at.len {
+        program::wrong(b"cases", at.number, b"has no line feed at its end");
+    }
+}
+
+// The lines that end in a piece, each behind what an earlier piece left of it.
+fn lines(start: Place, piece: &[u8], line: &mut [u8], out: &mut [u8]) -> Place {
+    let mut at = start;
+    let mut i = 0;
+    while i < piece.len() {
+        at = next(at, piece[i], line, out);
+        if !at.is_sound {
+            break;
         }
         i += 1;
     }
+    at
+}
+
+// One byte more: a line feed ends the line, any other byte is put behind it.
+fn next(at: Place, byte: u8, line: &mut [u8], out: &mut [u8]) -> Place {
+    let number = at.number;
+    let len = at.len;
+    if byte == b'\n' {
+        let n = within(len, line);
+        return Place {
+            number: std::num::wrapping_add_u64(number, 1),
+            len: 0,
+            is_sound: answered(number, &line[..n], out),
+        };
+    }
+    if len < line.len() {
+        line[len] = byte;
+        return Place {
+            number,
+            len: len + 1,
+            is_sound: true,
+        };
+    }
+    program::wrong(b"cases", number, b"has more than 4096 bytes");
+    Place {
+        number,
+        len,
+        is_sound: false,
+    }
+}
+
+// The line's answer is printed, or what is wrong with the line is told.
+fn answered(number: u64, hex: &[u8], out: &mut [u8]) -> bool {
+    match case::first_fault(hex) {
+        Fault::Length => {
+            program::wrong(
+                b"cases",
+                number,
+                b"not a case: 34 hex digits, then two for each byte",
+            );
+            return false;
+        }
+        Fault::Digit => {
+            program::wrong(b"cases", number, b"not a case: a character is no hex digit");
+            return false;
+        }
+        Fault::Operation => {
+            program::wrong(b"cases", number, b"not a case: there is no such operation");
+            return false;
+        }
+        Fault::Room => {
+            program::wrong(
+                b"cases",
+                number,
+                b"the buffer that it asks for has more than 1024 bytes, or 64 samples",
+            );
+            return false;
+        }
+        Fault::None => {}
+    }
+    let n = answer(hex, out);
+    let k = within(n, out);
+    program::write(b"cases", &out[..k])
 }
 
 // The operation and the two numbers are the case's head; its bytes are lent to what writes, and read by all else.
-fn line(hex: &[u8]) {
+fn answer(hex: &[u8], out: &mut [u8]) -> usize {
     let mut head = [0u8; 17];
     let mut room = io::buffer();
-    unhex(hex, 0, &mut head);
-    let n = unhex(hex, 34, &mut room);
+    case::unhex(hex, 0, &mut head);
+    let n = case::unhex(hex, 34, &mut room);
     let k = within(n, &room);
     match integer::byte_at(&head, 0) {
-        0x11 | 0x12 | 0x13 | 0x14 | 0x15 | 0x16 | 0x17 | 0x18 | 0x3A => {
-            fields::write(&head, &mut room[..k])
-        }
-        _ => answer(&head, &room[..k]),
+        0x11..=0x18 | 0x3A => fields::write(&head, &mut room[..k], out),
+        _ => ask(&head, &room[..k], out),
     }
 }
 
-// One line: the operation's answer to the case.
-fn answer(head: &[u8], data: &[u8]) {
+fn ask(head: &[u8], data: &[u8], out: &mut [u8]) -> usize {
     let op = integer::byte_at(head, 0);
-    let a = number(head, 1) as usize;
-    let b = number(head, 9);
+    let a = case::number(head, 1) as usize;
+    let b = case::number(head, 9);
     match op {
-        0x01 => fields::read_int16(a, data),
-        0x02 => fields::read_uint16(a, data),
-        0x03 | 0x05 => fields::read_signed(op, a, data),
-        0x04 | 0x06 => fields::read_unsigned(op, a, data),
-        0x07 | 0x08 | 0x09 => fields::read_figure(op, a, b, data),
-        0x20 => frames::open(data),
-        0x21 => frames::encode(head, b, data),
-        0x22 => frames::split(a, b, data),
-        0x23 => frames::state(a, head, data),
-        0x24 => frames::copy_payload(a, data),
-        0x30 => messages::flight_result(data),
-        0x31 => messages::flight_result_v1(data),
-        0x32 => messages::club_result(data),
-        0x33 => messages::spin_result(data),
-        0x34 => messages::tracking_status(data),
-        0x35 => messages::speed_profile(a, data),
-        0x36 => messages::prc_data(data),
-        0x37 => messages::prc_point(a, data),
-        0x38 => messages::club_prc(data),
-        0x39 => messages::club_prc_point(a, data),
-        0x3B => messages::shot_text(data),
-        0x3C | 0x3D | 0x3E | 0x3F => messages::has_failed(op, a, data),
-        0x40 => messages::field(head, a, data),
-        0x41 => messages::bay_log(head, b, data),
-        _ => (),
-    }
-}
-
-// The bytes of a line of hex from a digit on, at the front of a buffer, and how many.
-fn unhex(hex: &[u8], from: usize, out: &mut [u8]) -> usize {
-    let mut at = from;
-    let mut i = 0;
-    while i < out.len() {
-        if hex.len() <= at {
-            break;
-        }
-        out[i] = digit(hex, at) << 4 | digit(hex, at + 1);
-        at += 2;
-        i += 1;
-    }
-    i
-}
-
-fn digit(hex: &[u8], at: usize) -> u8 {
-    let glyph = integer::byte_at(hex, at);
-    if glyph < 58 {
-        std::num::wrapping_sub_u8(glyph, 48)
-    } else {
-        std::num::wrapping_sub_u8(glyph, 87)
+        0x01 => fields::read_int16(a, data, out),
+        0x02 => fields::read_uint16(a, data, out),
+        0x03 | 0x05 => fields::read_signed(op, a, data, out),
+        0x04 | 0x06 => fields::read_unsigned(op, a, data, out),
+        0x07 | 0x08 | 0x09 => fields::read_figure(op, a, b, data, out),
+        0x20 => frames::open(data, out),
+        0x21 => frames::encode(head, b, data, out),
+        0x22 => frames::split(head, data, out),
+        0x23 => frames::state(head, data, out),
+        0x24 => frames::copy_payload(a, data, out),
+        0x40 => messages::field(head, a, data, out),
+        0x41 => messages::bay_log(head, b, data, out),
+        _ => messages::ask(op, a, data, out),
     }
 }

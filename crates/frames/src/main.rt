@@ -1,5 +1,7 @@
-// Document 01's program: reads standard input to its end, and prints a line for each event and the line at the end.
-// It is run on document 01's example (stdin and stdout beside src/).
+// Prints a line for each frame of a capture on standard input, and a line at its end (document 01's program).
+// The gate runs it on document 01's example (stdin and stdout beside src/).
 fn main() {
-    capture::print_all();
+    if program::alone(os::arg_count(), b"usage: ./run frames < CAPTURE\n") {
+        capture::print_all();
+    }
 }

@@ -42,8 +42,8 @@ module _ (s t : List ℕ) (i : ℕ) (h : i ≤ length t) (b : t ≡ cutBack s) (
   unfolding textOf
   remains = f ∙ ap cutFront b
 
-  pub text-is : take (length t - i) (drop i t) ≡ textOf s
-  text-is = take-all (length t - i) (drop i t) (omega (arith, length-drop i t)) ∙ remains
+  pub long-is : length t - i ≡ length (textOf s)
+  long-is = omega (arith, length-drop i t, ap length remains)
 
   pub start-is : i ≡ textStart s
   unfolding textStart

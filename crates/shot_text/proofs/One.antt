@@ -4,6 +4,7 @@ use mathlib.Core.Path.{_≡_, refl}
 use mathlib.Core.Bool.{Bool, true, false}
 use Rattle.general.proofs.One.{plain}
 use Rattle.shot_text.specs.Search.{Says}
+use Rattle.shot_text.proofs.ShotText.place.Reads as place
 use Rattle.shot_text.proofs.ShotText.decode.Reads as decode
 use Rattle.shot_text.proofs.ShotText.is_processed.Reads as is-processed
 use Rattle.shot_text.proofs.ShotText.is_idle.Reads as is-idle
@@ -15,6 +16,9 @@ one-answer {r = true} {s = true} a b = refl
 one-answer {r = true} {s = false} a b = absurd (b .no refl (a .yes refl))
 one-answer {r = false} {s = true} a b = absurd (a .no refl (b .yes refl))
 one-answer {r = false} {s = false} a b = refl
+
+pub one-place : (κs a r s x y : _) → place.Post κs a r x → place.Post κs a s y → r ≡ s
+one-place κs a r s x y = plain
 
 pub one-decode : (κs a r s x y : _) → decode.Post κs a r x → decode.Post κs a s y → (r .now ≡ s .now) × (r .ptr ≡ s .ptr)
 one-decode κs a r s x y (p, e) (q, f) = (plain p q, plain e f)

@@ -1,10 +1,11 @@
 -- The trim, told apart from how it is made: what is cut away at either end are bytes below 20 hex, and no more is.
 -- What is kept begins and ends with a byte of 20 hex or more, or is empty.
-use Prim.Native.Nat.{ℕ, _≤_, _<_}
+use Prim.Native.Nat.{ℕ, _+_, _≤_, _<_}
 use mathlib.Core.Path.{_≡_, refl, sym, _∙_, ap, subst}
-use mathlib.Core.List.{List, [], _∷_, _++_, append-nil, reverse, reverse-cons, reverse-append, reverse-reverse}
+use mathlib.Core.List.{List, [], _∷_, _++_, append-nil, append-assoc, reverse, reverse-cons, reverse-append, reverse-reverse}
 use native.Mathlib.Omega.{arith}
-use lib.ListN.{length, length-append, length-reverse}
+use lib.ListN.{length, take, drop, length-append, length-reverse}
+use lib.Seq.{take-append-seam, drop-append-seam}
 use borrow.Author.Tests.{lt-ltb, le-ltb}
 use Rattle.general.proofs.Cases.{by-lt}
 use Rattle.shot_text.specs.Trim.{cutFront, cutBack, textOf, textStart}
@@ -107,6 +108,23 @@ module _ (s : List ℕ) where
             starts-front (reverse (textOf s)) (reverse (first .front))
             (subst Starts (sym back-starts ∙ ap reverse front-apart ∙ reverse-append (first .front) (textOf s)) (last .starts));
       }
+
+  -- what remains lies in the payload, at its place
+  behind : s ≡ trimmed .front ++ (textOf s ++ trimmed .back)
+  behind = trimmed .whole ∙ append-assoc (trimmed .front) (textOf s) (trimmed .back)
+
+  pub lies : take (length (textOf s)) (drop (textStart s) s) ≡ textOf s
+  lies =
+      let t = trimmed in
+      ap (λ (n : ℕ). take (length (textOf s)) (drop n s)) (sym (t .start))
+      ∙ ap (λ (l : List ℕ). take (length (textOf s)) (drop (length (t .front)) l)) behind
+      ∙ ap (take (length (textOf s))) (drop-append-seam (t .front) (textOf s ++ t .back))
+      ∙ take-append-seam (textOf s) (t .back)
+
+  pub within : textStart s + length (textOf s) ≤ length s
+  within =
+      let t = trimmed in
+      omega (arith, t .start, ap length behind, length-append (t .front) (textOf s ++ t .back), length-append (textOf s) (t .back))
 
   -- where nothing remains, the part is the payload's empty start
   pub none-left : textOf s ≡ [] → textStart s ≡ 0

@@ -6,6 +6,7 @@ use mathlib.Core.List.{List, [], _∷_, reverse}
 use lib.Dec.{ltb}
 use lib.ListN.{length}
 use denote.Ref.{RefT}
+use Rattle.shot_text.specs.declared.TextPlace.{TextPlace}
 
 -- from the first byte of 20 hex or more on
 unfoldable pub cutFront : List ℕ → List ℕ
@@ -25,6 +26,10 @@ textOf s = cutFront (cutBack s)
 unfoldable pub textStart : List ℕ → ℕ
 unfolding cutFront cutBack textOf
 textStart s = length (cutBack s) - length (textOf s)
+
+-- where what remains lies: how many bytes stand before it, and how many it has
+abbrev pub placeOf : List ℕ → TextPlace
+placeOf s = record { start = textStart s; len = length (textOf s) }
 
 -- the place in memory
 abbrev pub textAt : RefT (List ℕ) → ℕ × ℕ

@@ -3,20 +3,37 @@
 ghost use mathlib.Core.Path.{_≡_};
 ghost use Prim.Native.Nat.{_+_, _-_, _≤_};
 ghost use lib.ListN.{length, take, drop};
-ghost use Rattle.shot_text.specs.Trim.{cutFront, cutBack, textOf, textAt};
+ghost use Rattle.shot_text.specs.Trim.{cutFront, cutBack, textOf, textAt, placeOf};
 ghost use Rattle.shot_text.specs.Search.{Says, StandsAt, Stands, bytes};
 
 pub struct ShotText {}
 
+// Where a text lies in its payload.
+pub struct TextPlace {
+    pub start: usize,
+    pub len: usize,
+}
+
 impl ShotText {
+    pub fn place(payload: &[u8]) -> TextPlace
+        ensures { λ r. ⌜ r ≡ placeOf (now (payload .entry)) ⌝ }
+    {
+        let end = end_of(payload);
+        let start = start_of(&payload[..end]);
+        TextPlace {
+            start,
+            len: end - start,
+        }
+    }
+
     pub fn decode(payload: &[u8]) -> &[u8]
         ensures { λ r. ⌜ now r ≡ textOf (now (payload .entry)) ⌝ }
         ensures { λ r. ⌜ r .ptr ≡ textAt (payload .entry) ⌝ }
     {
-        let end = end_of(payload);
-        let text = &payload[..end];
-        let start = start_of(text);
-        &text[start..]
+        let place = ShotText::place(payload);
+        let start = place.start;
+        let end = start + place.len;
+        &payload[start..end]
     }
 
     // Whether the word PROCESSED stands in it.

@@ -15,15 +15,15 @@ use Rattle.capture.proofs.read_all.Statement.{statement}
 use Rattle.capture.proofs.read_all.Tie as tie
 
 abbrev Inv-loop : tie.InvT-loop
-Inv-loop hold₀ piece₀ lines₀ session₀ turns₀ hold piece lines session turns =
+Inv-loop hold₀ piece₀ lines₀ session₀ is-whole₀ turns₀ t11 hold piece lines session is-whole turns =
     (Reached hold₀ (stage session hold)) × (length hold ≡ length hold₀) × (length piece ≡ length piece₀) × (length lines ≡ length lines₀)
 
 abbrev μ-loop : tie.MeasureT-loop
-μ-loop hold₀ piece₀ lines₀ session₀ turns₀ hold piece lines session turns = turns
+μ-loop hold₀ piece₀ lines₀ session₀ is-whole₀ turns₀ t11 hold piece lines session is-whole turns = turns
 
 -- one piece more: it is at most 8,192 bytes long, so there is room for its lines
 abbrev given : tie.After-piece2 Inv-loop μ-loop → tie.At-loop Inv-loop μ-loop
-given c = c .before .before .before .before .before .before .before .before .before .before .before .before
+given c = c .before .before .before .before .before .before .before .before .before .before .before .before .before
 
 further :
     (c : tie.After-piece2 Inv-loop μ-loop)
@@ -53,11 +53,11 @@ loop-holds c =
     let h = a .hold .now in
     (subst (λ (s : Session). Reached h (stage s h)) (sym (c .new .ensures)) (starts h), refl, refl, refl)
 
+slice-aggregate-read : tie.Need-slice-aggregate-read Inv-loop μ-loop
+slice-aggregate-read c = search needs
+
 read-requires : tie.Need-read-requires Inv-loop μ-loop
 read-requires c κs = tt
-
-told-requires : tie.Need-told-requires Inv-loop μ-loop
-told-requires c κs = tt
 
 count-requires : tie.Need-count-requires Inv-loop μ-loop
 count-requires c κs = tt
@@ -127,8 +127,8 @@ read-all-spec =
     μ-loop
     new-requires
     loop-holds
+    slice-aggregate-read
     read-requires
-    told-requires
     count-requires
     slice-reshare-prefix-piece
     slice-aggregate-piece

@@ -1,28 +1,26 @@
--- `hex` is safe and ends: the measure is what is left of the list.
--- Each turn prints one.
+-- `hex` is safe and ends: the measure is what is left of the bytes.
+-- Each turn puts one; the buffer keeps its length.
 use Prim.Native.Nat.{_-_}
+use mathlib.Core.Path.{_≡_, refl}
 use native.Mathlib.Omega.{arith}
 use lib.ListN.{length}
 use Rattle.cases.proofs.say.hex.Statement.{statement}
 use Rattle.cases.proofs.say.hex.Tie as tie
 
 abbrev Inv-loop : tie.InvT-loop
-Inv-loop bytes i₀ i = Unit
+Inv-loop bytes out₀ at to₀ i₀ out to i = length out ≡ length out₀
 
 abbrev μ-loop : tie.MeasureT-loop
-μ-loop bytes i₀ i = length bytes - i
+μ-loop bytes out₀ at to₀ i₀ out to i = length bytes - i
 
 loop-holds : tie.Need-loop-holds Inv-loop μ-loop
-loop-holds c = tt
+loop-holds c = refl
 
-shared-slice-read-print-hex : tie.Need-shared-slice-read-print-hex Inv-loop μ-loop
-shared-slice-read-print-hex c = omega arith
+shared-slice-read-pair : tie.Need-shared-slice-read-pair Inv-loop μ-loop
+shared-slice-read-pair c = omega arith
 
-cast-print-hex : tie.Need-cast-print-hex Inv-loop μ-loop
-cast-print-hex c = omega (arith, c .shared-slice-known2 .given (c .before .before .loop .i))
-
-print-hex-requires : tie.Need-print-hex-requires Inv-loop μ-loop
-print-hex-requires c κs = tt
+pair-requires : tie.Need-pair-requires Inv-loop μ-loop
+pair-requires c κs = tt
 
 add-i : tie.Need-add-i Inv-loop μ-loop
 add-i c = omega arith
@@ -31,7 +29,10 @@ loop-less : tie.Need-loop-less Inv-loop μ-loop
 loop-less c = omega arith
 
 loop-again : tie.Need-loop-again Inv-loop μ-loop
-loop-again c = tt
+loop-again c = omega arith
+
+same-length : tie.Need-same-length Inv-loop μ-loop
+same-length c = omega arith
 
 returns : tie.Need-returns Inv-loop μ-loop
 returns c = tt
@@ -43,10 +44,10 @@ hex-spec =
     Inv-loop
     μ-loop
     loop-holds
-    shared-slice-read-print-hex
-    cast-print-hex
-    print-hex-requires
+    shared-slice-read-pair
+    pair-requires
     add-i
     loop-less
     loop-again
+    same-length
     returns)

@@ -1,19 +1,20 @@
 -- `wholes` is safe and ends: the measure is what is left of the list.
--- Each turn prints one, or is the last.
+-- Each turn puts one, or is the last; the buffer keeps its length.
 use Prim.Native.Nat.{_-_}
+use mathlib.Core.Path.{_≡_, refl}
 use native.Mathlib.Omega.{arith}
 use lib.ListN.{length}
 use Rattle.cases.proofs.say.wholes.Statement.{statement}
 use Rattle.cases.proofs.say.wholes.Tie as tie
 
 abbrev Inv-loop : tie.InvT-loop
-Inv-loop ns n i₀ i = Unit
+Inv-loop ns n out₀ at to₀ i₀ out to i = length out ≡ length out₀
 
 abbrev μ-loop : tie.MeasureT-loop
-μ-loop ns n i₀ i = length ns - i
+μ-loop ns n out₀ at to₀ i₀ out to i = length ns - i
 
 loop-holds : tie.Need-loop-holds Inv-loop μ-loop
-loop-holds c = tt
+loop-holds c = refl
 
 mul-whole : tie.Need-mul-whole Inv-loop μ-loop
 mul-whole c = omega arith
@@ -31,10 +32,16 @@ loop-less : tie.Need-loop-less Inv-loop μ-loop
 loop-less c = omega arith
 
 loop-again : tie.Need-loop-again Inv-loop μ-loop
-loop-again c = tt
+loop-again c = omega arith
+
+same-length : tie.Need-same-length Inv-loop μ-loop
+same-length c = omega arith
 
 returns : tie.Need-returns Inv-loop μ-loop
 returns c = tt
+
+same-length-2 : tie.Need-same-length-2 Inv-loop μ-loop
+same-length-2 c = omega arith
 
 returns-2 : tie.Need-returns-2 Inv-loop μ-loop
 returns-2 c = tt
@@ -52,5 +59,7 @@ wholes-spec =
     add-i
     loop-less
     loop-again
+    same-length
     returns
+    same-length-2
     returns-2)

@@ -1,53 +1,44 @@
--- `ShotText::decode` meets its contract: the back is cut first, then the front of what is left.
--- What is answered is that part of the payload, not a copy.
+-- `ShotText::decode` meets its contract: what is answered is the part of the payload at the text's place, not a copy.
+-- That the part is there is the trim's law (proofs/Trimmed).
 use borrow.Author.Needs.{needs}
-use Prim.Native.Nat.{_+_}
-use mathlib.Core.Path.{sym}
-use lib.ListN.{take}
-use lib.Seq.{length-take-le}
-use Rattle.shot_text.proofs.Cuts.{text-is, start-is}
+use Prim.Native.Nat.{ℕ, _+_, _-_, _≤_}
+use mathlib.Core.Path.{_≡_, sym, ap, _∙_}
+use mathlib.Core.List.{List}
+use native.Mathlib.Omega.{arith}
+use lib.ListN.{length, take, drop}
+use Rattle.shot_text.specs.declared.TextPlace.{TextPlace}
+use Rattle.shot_text.specs.Trim.{textOf, textStart}
+use Rattle.shot_text.proofs.Trimmed.{lies, within}
 use Rattle.shot_text.proofs.ShotText.decode.Statement.{statement}
 use Rattle.shot_text.proofs.ShotText.decode.Tie as tie
 
-end-of-requires : tie.Need-end-of-requires
-end-of-requires c κs = search needs
+module _ (c : tie.After-place) where
+  abbrev payload : List ℕ
+  payload = c .before .before .args .payload .now
 
-slice-aggregate-text : tie.Need-slice-aggregate-text
-slice-aggregate-text c =
-    let e = c .before .end-of in
-    sym (length-take-le (e .result) (c .before .before .before .args .payload .now) (e .ensures .0))
+  pub start-is : c .place .result .start ≡ textStart payload
+  start-is = ap (λ (p : TextPlace). p .start) (c .place .ensures)
 
-start-of-requires : tie.Need-start-of-requires
-start-of-requires c κs = search needs
+  pub len-is : c .place .result .len ≡ length (textOf payload)
+  len-is = ap (λ (p : TextPlace). p .len) (c .place .ensures)
 
-sub-result : tie.Need-sub-result
-sub-result c = search needs
+  pub fits : c .place .result .start + c .place .result .len ≤ length payload
+  fits = omega (arith, start-is, len-is, within payload)
 
-part-result-start : tie.Need-part-result-start
-part-result-start c = search needs
-
-part-result-end : tie.Need-part-result-end
-part-result-end c = search needs
+add-end : tie.Need-add-end
+add-end c = omega (arith, fits (c .before))
 
 returns : tie.Need-returns
 returns c =
-    let start = c .before .start-of in
-    let end = c .before .before .before .end-of in
-    let payload = c .before .before .before .before .before .args .payload in
-    let text = take (end .result) (payload .now) in
-    let i = start .result in (
-      text-is (payload .now) text i (start .ensures .0) (end .ensures .1) (start .ensures .1),
-      λ j. (payload .ptr .0, start-is (payload .now) text i (start .ensures .0) (end .ensures .1) (start .ensures .1) j + payload .ptr .1),
+    let p = c .before .before in
+    let s = payload p in
+    let ptr = p .before .before .args .payload .ptr in
+    let n : p .place .result .start + p .place .result .len - p .place .result .start ≡ length (textOf s) = omega (arith, len-is p) in (
+      ap (λ (k : ℕ). take k (drop (p .place .result .start) s)) n ∙ ap (λ (k : ℕ). take (length (textOf s)) (drop k s)) (start-is p) ∙ lies s,
+      ap (λ (k : ℕ). (ptr .0, k + ptr .1)) (start-is p),
     )
 
 pub decode-spec : {M : Type 1} → statement M
 decode-spec =
     tie.close
-    (tie.spec
-    end-of-requires
-    slice-aggregate-text
-    start-of-requires
-    sub-result
-    part-result-start
-    part-result-end
-    returns)
+    (tie.spec (λ c κs. search needs) add-end (λ c. search needs) (λ c. search needs) (λ c. fits (c .before)) returns)

@@ -1,35 +1,29 @@
--- `unhex` is safe and ends: the measure is the room left.
--- It stops at the end of the line or of the buffer.
+-- `text` is safe and ends: the measure is what is left of the text.
+-- The buffer keeps its length.
 use Prim.Native.Nat.{_-_}
 use mathlib.Core.Path.{_≡_, refl}
-use lib.ListN.{length, length-set}
 use native.Mathlib.Omega.{arith}
-use Rattle.cases.proofs.unhex.Statement.{statement}
-use Rattle.cases.proofs.unhex.Tie as tie
+use lib.ListN.{length, length-set}
+use Rattle.cases.proofs.say.text.Statement.{statement}
+use Rattle.cases.proofs.say.text.Tie as tie
 
 abbrev Inv-loop : tie.InvT-loop
-Inv-loop hex from out₀ at₀ i₀ out at i = length out ≡ length out₀
+Inv-loop bytes out₀ at to₀ i₀ out to i = length out ≡ length out₀
 
 abbrev μ-loop : tie.MeasureT-loop
-μ-loop hex from out₀ at₀ i₀ out at i = length out₀ - i
+μ-loop bytes out₀ at to₀ i₀ out to i = length bytes - i
 
 loop-holds : tie.Need-loop-holds Inv-loop μ-loop
 loop-holds c = refl
 
-digit-requires : tie.Need-digit-requires Inv-loop μ-loop
-digit-requires c κs = tt
-
-add-digit : tie.Need-add-digit Inv-loop μ-loop
-add-digit c = omega arith
-
-digit-requires-2 : tie.Need-digit-requires-2 Inv-loop μ-loop
-digit-requires-2 c κs = tt
+shared-slice-read-out : tie.Need-shared-slice-read-out Inv-loop μ-loop
+shared-slice-read-out c = omega arith
 
 slice-write-out : tie.Need-slice-write-out Inv-loop μ-loop
 slice-write-out c = omega arith
 
-add-at : tie.Need-add-at Inv-loop μ-loop
-add-at c = omega arith
+add-to : tie.Need-add-to Inv-loop μ-loop
+add-to c = omega arith
 
 add-i : tie.Need-add-i Inv-loop μ-loop
 add-i c = omega arith
@@ -38,7 +32,7 @@ loop-less : tie.Need-loop-less Inv-loop μ-loop
 loop-less c = omega arith
 
 loop-again : tie.Need-loop-again Inv-loop μ-loop
-loop-again c = simp length-set (c .before .before .before .before .loop .inv)
+loop-again c = simp length-set (c .before .before .before .loop .inv)
 
 same-length : tie.Need-same-length Inv-loop μ-loop
 same-length c = omega arith
@@ -52,18 +46,16 @@ same-length-2 c = omega arith
 returns-2 : tie.Need-returns-2 Inv-loop μ-loop
 returns-2 c = tt
 
-pub unhex-spec : {M : Type 1} → statement M
-unhex-spec =
+pub text-spec : {M : Type 1} → statement M
+text-spec =
     tie.close
     (tie.spec
     Inv-loop
     μ-loop
     loop-holds
-    digit-requires
-    add-digit
-    digit-requires-2
+    shared-slice-read-out
     slice-write-out
-    add-at
+    add-to
     add-i
     loop-less
     loop-again

@@ -3,8 +3,8 @@
 use Prim.Native.Nat.{ℕ}
 use mathlib.Core.Path.{sym}
 use lib.ListN.{length-replicate}
-use Rattle.cases.proofs.lent.Statement.{statement}
-use Rattle.cases.proofs.lent.Tie as tie
+use Rattle.cases.proofs.case.lent.Statement.{statement}
+use Rattle.cases.proofs.case.lent.Tie as tie
 
 returns : tie.Need-returns
 returns c = sym (length-replicate {0} {A = ℕ} 1024 165)

@@ -3,8 +3,8 @@
 use native.Mathlib.Omega.{arith}
 use lib.ListN.{length}
 use Rattle.cases.proofs.Fronts.{front}
-use Rattle.cases.proofs.within.Statement.{statement}
-use Rattle.cases.proofs.within.Tie as tie
+use Rattle.cases.proofs.case.within.Statement.{statement}
+use Rattle.cases.proofs.case.within.Tie as tie
 
 returns : tie.Need-returns
 returns c = front (c .before .args .n) (c .before .args .buf .now) (omega arith)

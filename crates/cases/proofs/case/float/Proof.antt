@@ -9,8 +9,8 @@ use lib.Dec.{T, ltb, ltb→lt}
 use lib.Ieee.{binary64, nanBits}
 use lib.Ieee.Bits.{nanBits-above}
 use Rattle.general.proofs.Cases.{by-test}
-use Rattle.cases.proofs.float.Statement.{statement}
-use Rattle.cases.proofs.float.Tie as tie
+use Rattle.cases.proofs.case.float.Statement.{statement}
+use Rattle.cases.proofs.case.float.Tie as tie
 
 no-nan : (n : ℕ) → n % 9223372036854775808 ≤ 9218868437227405312 → T (not (nanBits binary64 n))
 no-nan n h =
