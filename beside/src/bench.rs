@@ -1,10 +1,11 @@
 //! The speed of the port beside the Rust: the same inputs, the same process, in pairs; buffers are not cleared first.
 use crate::cases::Random;
-use crate::port::{c, Splitter};
+use crate::port::Splitter;
 use ironsight::addr::BusAddr;
 use ironsight::codec;
 use ironsight::frame::{FrameSplitter, RawFrame};
 use ironsight::protocol::shot::*;
+use movaleduft::c;
 use std::hint::black_box;
 use std::time::Instant;
 
@@ -186,7 +187,7 @@ fn floats(r: &mut Random) {
             xs.iter().for_each(|&x| codec::write_float40(&mut old, black_box(x)));
         },
         || xs.iter().enumerate().for_each(|(i, &x)| unsafe {
-            black_box(c::mvd_write_float40(buf.as_mut_ptr(), buf.len(), i * 5, black_box(x), v.as_mut_ptr()));
+            black_box(c::mvd_write_float40_bits(buf.as_mut_ptr(), buf.len(), i * 5, black_box(x).to_bits(), v.as_mut_ptr()));
         }),
     );
 }

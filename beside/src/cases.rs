@@ -150,10 +150,11 @@ fn frame_case(r: &mut Random) -> Case {
             wire_case(r, room as u64, sound)
         }
         2 => {
+            let len = if r.below(500) == 0 { 65_536 + r.below(70_000) } else { len };
             let payload = r.bytes(len);
             let sound = wire(r, payload);
             let hurt = damage(r, sound);
-            let room = r.one_of(&[0, 700]);
+            let room = r.one_of(&[0, 700, len as u64]);
             wire_case(r, room, hurt)
         }
         _ => {
@@ -167,10 +168,11 @@ fn frame_case(r: &mut Random) -> Case {
     }
 }
 
-fn stream(r: &mut Random) -> Vec<u8> {
+/// Some frames, sound and damaged, and bytes between them, each made of less than so many bytes.
+fn stream(r: &mut Random, most: usize) -> Vec<u8> {
     let mut bytes = Vec::new();
     for _ in 0..r.below(7) {
-        let len = r.below(30);
+        let len = r.below(most);
         let part = r.bytes(len);
         let next = match r.below(4) {
             0 => part,
@@ -185,22 +187,59 @@ fn stream(r: &mut Random) -> Vec<u8> {
     bytes
 }
 
+/// Four chunk sizes, each below so many, some of them 0.
+fn cuts(r: &mut Random, most: usize) -> u64 {
+    (0..4).fold(0, |b, _| b << 16 | if r.below(6) == 0 { 0 } else { r.below(most) as u64 })
+}
+
 fn split_case(r: &mut Random) -> Case {
-    let bytes = stream(r);
+    if r.below(100) == 0 {
+        let bytes = stream(r, 9_000);
+        let room = r.one_of(&[9_000, 18_000, bytes.len() + 1]);
+        return case(ops::SPLIT, r.below(room) as u64, cuts(r, 10_001), bytes);
+    }
+    let bytes = stream(r, 30);
     let room = match r.below(4) {
         0 => r.below(3),
         1 => r.below(12),
         _ => r.below(64),
     };
-    let turn: Vec<u8> = (0..8).map(|_| if r.below(6) == 0 { 0 } else { r.below(40) as u8 }).collect();
-    case(ops::SPLIT, room as u64, u64::from_be_bytes(turn.try_into().unwrap()), bytes)
+    case(ops::SPLIT, room as u64, cuts(r, 40), bytes)
 }
 
+/// A state, and what is offered to it.
+pub fn state(count: u64, hold: u64, mark: u8, chunk: Vec<u8>) -> Case {
+    case(ops::STATE, count, hold << 8 | mark as u64, chunk)
+}
+
+/// Every kind of mark: no, yes, and numbers that are neither.
+pub const MARKS: [u8; 4] = [0, 1, 2, 255];
+
+/// A state, most often one that a call gives, with a chunk that has something in it most often.
 fn state_case(r: &mut Random) -> Case {
-    let hold = r.below(6);
-    let count = if r.below(8) == 0 { r.next() } else { r.below(8) as u64 };
-    let mark = r.one_of(&[0, 0, 1, 255]);
-    case(ops::STATE, count, mark, r.bytes(hold))
+    let hold = r.one_of(&[6, 40, 300]);
+    let hold = r.below(hold);
+    let (count, mark) = match r.below(8) {
+        0 => (r.next(), 0),
+        1 => ((hold + r.below(3)) as u64, r.one_of(&MARKS)),
+        2 | 3 => (0, 1),
+        _ => (r.below(hold + 1) as u64, 0),
+    };
+    let chunk = match r.below(3) {
+        0 => stream(r, 30),
+        1 => {
+            let len = r.below(hold + 3);
+            let mut bytes = r.bytes(len);
+            bytes.push(0xF1);
+            bytes.extend(stream(r, 8));
+            bytes
+        }
+        _ => {
+            let len = r.below(8);
+            r.bytes(len)
+        }
+    };
+    state(count, hold as u64, mark, chunk)
 }
 
 /// A scale of 0, 1, a negative one, or anything.
@@ -429,6 +468,12 @@ pub fn bounded(r: &mut Random, mut take: impl FnMut(Case)) {
             }
         }
     }
+    // every type byte: three have numbers
+    for message in 0..=255 {
+        for len in [0, 167] {
+            take(case(ops::FIELD, 0, message, r.bytes(len)));
+        }
+    }
     // every wire of up to five of the bytes that matter, between the markers
     let bytes = [0x40, 0x10, 0x00, 0x01, 0x50, 0x51, 0xF0, 0xF1, 0xFA, 0xFD];
     for inner in strings(&bytes, 5) {
@@ -438,7 +483,7 @@ pub fn bounded(r: &mut Random, mut take: impl FnMut(Case)) {
     let bytes = [0x00, 0xF0, 0xF1, 0xFD];
     for stream in strings(&bytes, 6) {
         for room in 0..=4 {
-            for cuts in [0, 0x0101_0101_0101_0101, 0x0200_0103_0002_0100] {
+            for cuts in [0, 0x0001_0001_0001_0001, 0x0002_0000_0001_0003] {
                 take(case(ops::SPLIT, room, cuts, stream.clone()));
             }
         }
@@ -484,7 +529,7 @@ fn endings(mut take: impl FnMut(Case)) {
 }
 
 /// Short inputs, all of them: every INT24 read, written and logged, every wire and every text of up to two bytes, short
-/// interiors by how they end, every count, mark and H up to eight.
+/// interiors by how they end, every count and H up to eight with every mark, offered short chunks.
 pub fn exhaustive(mut take: impl FnMut(Case)) {
     for n in 0..1u32 << 24 {
         let bytes = n.to_be_bytes();
@@ -505,15 +550,28 @@ pub fn exhaustive(mut take: impl FnMut(Case)) {
     }
     endings(&mut take);
     for count in 0..=8 {
-        for mark in 0..=255 {
-            for hold in 0..=8 {
-                take(case(ops::STATE, count, mark, vec![ops::UNTOUCHED; hold]));
+        for hold in 0..=8 {
+            for mark in 0..=255 {
+                take(state(count, hold, mark, vec![]));
+                take(state(count, hold, mark, vec![0xF1, 0xF0]));
+            }
+            for mark in MARKS {
+                strings(&[0x00, 0xF0, 0xF1], 5).for_each(|chunk| take(state(count, hold, mark, chunk)));
             }
         }
     }
 }
 
-/// The longest payload, one more, and the checksum that wraps.
+/// A wire with a fault: at its end the checksum, the mark, an escape, one that is cut off; at its front addresses with the same sum.
+fn faults(sound: &[u8]) -> [Vec<u8>; 5] {
+    let (front, last) = sound.split_at(sound.len() - 1);
+    let (mut checksum, mut addresses) = (sound.to_vec(), sound.to_vec());
+    checksum[sound.len() - 2] ^= 1;
+    addresses[1..3].copy_from_slice(&[0x11, 0x11]);
+    [checksum, [front, &[0xF2]].concat(), [front, &[0xFD, 0x05], last].concat(), [front, &[0xFD], last].concat(), addresses]
+}
+
+/// The longest payload, one more, the checksum that wraps; wires above 65,536 bytes, sound, damaged, and with each fault.
 pub fn long(r: &mut Random) -> Vec<Case> {
     let fields = 0x40_1001;
     let mut cases = vec![
@@ -527,8 +585,18 @@ pub fn long(r: &mut Random) -> Vec<Case> {
         let sound = wire(r, payload);
         cases.extend(wire_cases(n as u64, &sound));
         cases.push(case(ops::COPY_PAYLOAD, n as u64 - 1, 0, sound.clone()));
-        cases.push(case(ops::SPLIT, sound.len() as u64, 0xFFFF_FFFF_FFFF_FFFF, sound.clone()));
-        cases.push(case(ops::SPLIT, sound.len() as u64 - 1, 0xFFFF_FFFF_FFFF_FFFF, sound));
+        for sizes in [u64::MAX, 0x2710_0001_0000_2710] {
+            cases.push(case(ops::SPLIT, sound.len() as u64, sizes, sound.clone()));
+            cases.push(case(ops::SPLIT, sound.len() as u64 - 1, sizes, sound.clone()));
+        }
+    }
+    for n in [65_535, 65_536, 70_000, 131_072] {
+        let payload = r.bytes(n);
+        let sound = RawFrame { dest: BusAddr::App, src: BusAddr::Pi, type_id: 0xD4, payload }.encode();
+        let hurt: Vec<_> = (0..8).map(|_| damage(r, sound.clone())).collect();
+        for wire in hurt.iter().chain(&faults(&sound)).chain([&sound]) {
+            cases.extend(wire_cases(n as u64, wire));
+        }
     }
     cases
 }

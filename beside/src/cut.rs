@@ -3,10 +3,8 @@
 use crate::answer::{Answer, Case};
 use crate::ops;
 
-const CUT_ESCAPE: u64 = 12;
-
 /// The offset of the escape that is cut off, where a case is a wire whose first wrong escape it is: found in the wire's own bytes.
-pub fn found(c: &Case) -> Option<u64> {
+fn found(c: &Case) -> Option<u64> {
     let inner = match &c.data[..] {
         [0xF0, inner @ .., 0xF1] if matches!(c.op, ops::OPEN | ops::COPY_PAYLOAD) && inner.len() >= 5 => inner,
         _ => return None,
@@ -24,23 +22,14 @@ pub fn found(c: &Case) -> Option<u64> {
     None
 }
 
-/// The offset that an answer tells, where it tells an escape that is cut off.
-pub fn told(port: &Answer) -> Option<u64> {
-    (port.refusal == CUT_ESCAPE).then(|| port.whole[0] as u64)
-}
-
-/// The port's answer read as the Rust's: the cut escape is code 00 at the same offset, all else itself.
-pub fn as_rust(port: Answer) -> Answer {
-    match told(&port) {
-        Some(offset) => Answer { bytes: port.bytes, ..Answer::refused(4, &[0x00, offset]) },
-        None => port,
-    }
-}
-
-/// The Rust's answer as the port has to tell it: code 00 is the cut escape where the case's bytes have one.
+/// The Rust's answer as the port has to tell it: code 00 is the cut escape exactly where the case's bytes have one.
 pub fn as_port(c: &Case, rust: Answer) -> Answer {
     match found(c) {
-        Some(offset) => Answer { bytes: rust.bytes, ..Answer::refused(CUT_ESCAPE, &[offset]) },
+        Some(offset) => {
+            let told = Answer { bytes: rust.bytes.clone(), ..Answer::refused(4, &[0x00, offset]) };
+            assert_eq!(rust, told, "the Rust tells a cut escape by another answer");
+            Answer { bytes: rust.bytes, ..Answer::refused(12, &[offset]) }
+        }
         None => rust,
     }
 }

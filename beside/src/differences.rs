@@ -47,13 +47,6 @@ fn fields() {
         format!("{:?}", codec::read_float40(&[0; 5], usize::MAX - 4))
     });
     row("write_int24 of 1 into 2 bytes", ops::WRITE_INT24, 0, 1, &[0xA5; 2], || pushed(|v| codec::write_int24(v, 1)));
-    for bits in [0xFFF8_0000_0000_0000u64, 0x7FF4_0000_0000_0000] {
-        for (name, op) in [("write_float40", ops::WRITE_FLOAT40), ("write_float40_bits", ops::WRITE_FLOAT40_BITS)] {
-            row(&format!("{name} of the NaN {bits:X}"), op, 0, bits, &[0; 5], move || {
-                pushed(|v| codec::write_float40(v, f64::from_bits(bits)))
-            });
-        }
-    }
 }
 
 fn frames() {
@@ -77,6 +70,7 @@ fn frames() {
         format!("{:X?}", FrameSplitter::new().feed(&[0xF0, 0, 0, 0xF1]))
     });
     row("a count of 1 where H is 0", ops::STATE, 1, 0, &[], || "no such state".into());
+    row("a mark of 2, H 3", ops::STATE, 0, 3 << 8 | 2, &[0xF1], || "no such state".into());
 }
 
 fn messages() {
@@ -93,6 +87,7 @@ fn messages() {
         format!("is_model_failure: {}", FlightResult::decode(&short).unwrap().is_model_failure())
     });
     row("D4 by rule 3", ops::IS_FAILED, 3, 0, &[0; 157], || "no such call".into());
+    row("D5, field 0", ops::FIELD, 0, 0xD5, &[0; 157], || "no such call".into());
     row("D4, field 52", ops::FIELD, 52, 0xD4, &[0; 157], || "no such call".into());
     row("the bay log's record into 31 bytes", ops::BAY_LOG, 1, 31, &[0; 157], || "no such call".into());
 }

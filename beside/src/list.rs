@@ -1,9 +1,9 @@
-//! The fixed list: a sample of the Rust's answers that the program crate `cases` replays with no Rust at hand, a cut escape told as the port's.
-//! Made anew it is the same, byte for byte.
+//! The fixed list: a sample of the Rust's answers that the program crate `cases` replays with no Rust at hand, a cut escape told as
+//! the port's. Made anew it is the same, byte for byte.
 use crate::answer::Case;
 use crate::cases::{self, Random};
-use crate::{cut, ops, rust};
-use std::fs;
+use crate::{ops, wanted};
+use std::{fs, io};
 
 const SEED: u64 = 1;
 const CASES: usize = 2_000;
@@ -12,7 +12,19 @@ fn case(op: u8, a: u64, b: u64, data: &[u8]) -> Case {
     Case { op, a, b, data: data.to_vec() }
 }
 
-/// Document 01's worked examples, interiors that end in FD or FD 00, and the boundaries.
+/// NaNs of both signs: quiet ones, signalling ones, those with the least and the greatest fraction.
+const NANS: [u64; 8] = [
+    0x7FF8_0000_0000_0000,
+    0xFFF8_0000_0000_0000,
+    0x7FF4_0000_0000_0000,
+    0xFFF4_0000_0000_0000,
+    0x7FF0_0000_0000_0001,
+    0xFFF0_0000_0000_0001,
+    0x7FFF_FFFF_FFFF_FFFF,
+    0xFFFF_FFFF_FFFF_FFFF,
+];
+
+/// Document 01's worked examples, NaNs to write, texts, interiors that end in FD or FD 00, and the boundaries.
 fn named(r: &mut Random) -> Vec<Case> {
     let wires: [&[u8]; 7] = [
         &[0xF0, 0x40, 0x10, 0x01, 0x00, 0x51, 0xF1],
@@ -34,6 +46,9 @@ fn named(r: &mut Random) -> Vec<Case> {
         [[0, 1, 0x40, 0, 0], [0, 0, 0xC0, 0, 0], [0x7F, 0xFF, 0, 0, 0], [0xFB, 0xE5, 0x40, 0, 0], [0xFB, 0xE4, 0x40, 0, 0]];
     list.extend(floats.iter().map(|f| case(ops::READ_FLOAT40, 0, 0, f)));
     list.push(case(ops::WRITE_FLOAT40, 0, (-0.5f64).to_bits(), &[0; 5]));
+    for nan in NANS {
+        list.extend([ops::WRITE_FLOAT40, ops::WRITE_FLOAT40_BITS].map(|op| case(op, 0, nan, &[ops::UNTOUCHED; 5])));
+    }
     for (op, least, scale) in [(ops::FLIGHT_RESULT, 157, 109), (ops::FLIGHT_RESULT_V1, 94, 46), (ops::CLUB_RESULT, 167, 47)] {
         for len in [least - 1, least] {
             let mut data = r.bytes(len);
@@ -44,6 +59,9 @@ fn named(r: &mut Random) -> Vec<Case> {
     for (op, least) in [(ops::SPIN_RESULT, 138), (ops::TRACKING_STATUS, 82), (ops::SPEED_PROFILE, 12), (ops::PRC_DATA, 4)] {
         list.extend([least - 1, least].map(|len| case(op, 4, 0, &r.bytes(len))));
     }
+    let texts: [&[u8]; 8] =
+        [b"", b"\0\n\x1F", b"PROCESSED", b"\0\nPROCESSED\n", b"\x1F IDLE ", b"\nBALL\0TRIGGER", b"\tBALL TRIGGER\x7F", b"\0\xFFIDLE\xFF\0"];
+    list.extend(texts.map(|text| case(ops::SHOT_TEXT, 0, 0, text)));
     list
 }
 
@@ -81,14 +99,14 @@ fn limits(r: &mut Random) -> Vec<Case> {
     list.push(case(ops::COPY_PAYLOAD, 1, 0, &[0xF0, 0x40, 0x10, 0x01, 0x07, 0x08, 0xFD, 0x05, 0x00, 0x60, 0xF1]));
     list.extend([8, 9, 10].map(|room| case(ops::ENCODE, 0x40_1001, room, &[7, 8])));
     list.extend([0x41_1001, 0x40_1101, 0x41_1101].map(|fields| case(ops::ENCODE, fields, 20, &[])));
-    list.extend([0, 8, 9, 10].map(|room| case(ops::SPLIT, room, 0x0203_0405_0001_0902, &[&wire[..], &wire[..4], &wire].concat())));
-    for (count, mark) in [(0, 0), (2, 0), (3, 0), (0, 1), (1, 1), (u64::MAX, 0)] {
-        list.push(case(ops::STATE, count, mark, &[0; 2]));
-    }
+    list.extend([0, 8, 9, 10].map(|room| case(ops::SPLIT, room, 0x0002_0003_0000_0009, &[&wire[..], &wire[..4], &wire].concat())));
+    list.extend(states());
+    list.extend(long_splits(r));
     for (message, least, numbers) in [(0xD4, 157, 52), (0xE8, 94, 31), (0xED, 167, 55)] {
         list.extend([0, numbers - 1, numbers, u64::MAX].map(|n| case(ops::FIELD, n, message, &r.bytes(least))));
         list.push(case(ops::FIELD, 0, message, &r.bytes(least - 1)));
     }
+    list.extend([0x00, 0xD5, 0xFF].map(|message| case(ops::FIELD, 0, message, &[])));
     for len in [156, 157] {
         list.extend([31, 32, 33].map(|room| case(ops::BAY_LOG, 0xDEAD_BEEF, room, &r.bytes(len))));
     }
@@ -102,6 +120,31 @@ fn limits(r: &mut Random) -> Vec<Case> {
     list.extend([0, 2, 3].map(|index| case(ops::PRC_POINT, index, 0, &points)));
     list
 }
+
+/// States that a call gives and that none gives, each offered nothing, a frame's end, and more: what is held, completed, too long
+/// or skipped.
+fn states() -> Vec<Case> {
+    let chunks: [&[u8]; 5] = [&[], &[0xF1], &[0x07, 0xF1, 0xF0, 0x08], &[0x07, 0x08, 0x09, 0xF1, 0xF0, 0xF1], &[0x00, 0xF0]];
+    let mut list = Vec::new();
+    for (count, hold, mark) in [(0, 3, 0), (1, 3, 0), (2, 3, 0), (3, 3, 0), (0, 3, 1), (0, 0, 0), (0, 0, 1)] {
+        list.extend(chunks.map(|chunk| cases::state(count, hold, mark, chunk.to_vec())));
+    }
+    let bad = [(4, 3, 0), (1, 0, 0), (u64::MAX, 3, 0), (1, 3, 1), (3, 3, 1), (0, 3, 2), (0, 3, 255), (1, 3, 2), (0, 0, 255)];
+    for (count, hold, mark) in bad {
+        list.extend([chunks[0], chunks[2]].map(|chunk| cases::state(count, hold, mark, chunk.to_vec())));
+    }
+    list
+}
+
+/// Frames of some hundred bytes, in chunks of more than 255, with an H about the longest.
+fn long_splits(r: &mut Random) -> Vec<Case> {
+    let frame = |len: usize| [&[0xF0][..], &vec![0x42; len - 2], &[0xF1]].concat();
+    let stream = [&frame(300)[..], &r.bytes(5), &frame(1_023), &frame(1_024), &[0xF1], &frame(1_025), &frame(600)[..599]].concat();
+    [0, 300, 1_023, 1_024].into_iter().flat_map(|room| CUTS.map(|cuts| case(ops::SPLIT, room, cuts, &stream))).collect()
+}
+
+/// Chunk sizes that show a 16-bit size read as fewer bits, or out of turn.
+const CUTS: [u64; 3] = [0x0100_0000_0001_0401, 0x0FFF_0001_0000_0203, 0x0000_0101_0000_0400];
 
 /// Request 5's figures, five to a record of the log.
 fn shown() -> Vec<Case> {
@@ -129,10 +172,11 @@ fn fits(c: &Case) -> bool {
     let lent = match c.op {
         ops::COPY_PAYLOAD | ops::SPLIT => c.a,
         ops::ENCODE | ops::BAY_LOG => c.b,
+        ops::STATE => c.b >> 8,
         ops::SPEED_PROFILE => c.a * 16,
         _ => 0,
     };
-    c.data.len() <= 320 && lent <= 400
+    c.data.len() <= 4_096 && lent <= 1_024
 }
 
 /// A thin sample of the bounded cases: every one whose number is a multiple of a step.
@@ -141,14 +185,14 @@ fn sampled(r: &mut Random) -> Vec<Case> {
     let mut n = 0u32;
     cases::bounded(r, |c| {
         n += 1;
-        if n % 3_001 == 0 {
+        if n.is_multiple_of(3_001) {
             list.push(c);
         }
     });
     list
 }
 
-pub fn write(dir: &str) {
+pub fn write(dir: &str) -> io::Result<()> {
     let mut r = Random::new(SEED);
     let mut list = named(&mut r);
     list.extend(edges());
@@ -163,7 +207,8 @@ pub fn write(dir: &str) {
         }
     }
     let text = |f: &dyn Fn(&Case) -> String| list.iter().map(|c| f(c) + "\n").collect::<String>();
-    fs::write(format!("{dir}/stdin"), text(&|c| c.line())).expect("the folder can be written");
-    fs::write(format!("{dir}/stdout"), text(&|c| cut::as_port(c, rust::ask(c)).line())).expect("the folder can be written");
+    fs::write(format!("{dir}/stdin"), text(&|c| c.line()))?;
+    fs::write(format!("{dir}/stdout"), text(&|c| wanted(c).line()))?;
     println!("{} cases", list.len());
+    Ok(())
 }

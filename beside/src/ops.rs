@@ -1,4 +1,7 @@
 //! The operations by number, and what a case's two numbers mean for each.
+//! What of a case both sides are offered alike is made here: the chunks of a stream, the frame that stands for a state.
+use crate::answer::{Answer, Case};
+use std::iter::once;
 
 /// Readers at a place: a is the place, b the scale's bits for the scaled ones.
 pub const READ_INT16: u8 = 0x01;
@@ -10,7 +13,8 @@ pub const READ_UINT32: u8 = 0x06;
 pub const READ_FLOAT40: u8 = 0x07;
 pub const READ_INT24_SCALED: u8 = 0x08;
 pub const READ_INT16_SCALED: u8 = 0x09;
-/// Writers at a place of the lent bytes: a is the place, b the value (its low bits, or a float's bits).
+/// Writers at a place of the lent bytes: a is the place, b the value (its low bits, or a float's bits). 17 is handed a float,
+/// 18 its bits.
 pub const WRITE_INT16: u8 = 0x11;
 pub const WRITE_UINT16: u8 = 0x12;
 pub const WRITE_INT24: u8 = 0x13;
@@ -23,9 +27,9 @@ pub const WRITE_FLOAT40_BITS: u8 = 0x18;
 pub const OPEN: u8 = 0x20;
 /// a is DEST, SRC and TYPE, b the lent wire buffer's length.
 pub const ENCODE: u8 = 0x21;
-/// a is H; the eight bytes of b are the sizes of the chunks offered, in turn (see `sizes`).
+/// a is H; b has the sizes of the chunks offered, four of 16 bits, in turn (see `sizes`).
 pub const SPLIT: u8 = 0x22;
-/// a is the count, b the mark, the bytes are the hold buffer: an empty chunk is offered to that state.
+/// a is the count, b is H times 256 plus the mark: the bytes are a chunk, offered to that state.
 pub const STATE: u8 = 0x23;
 /// The Rust's parse without the header: a is the lent buffer's length.
 pub const COPY_PAYLOAD: u8 = 0x24;
@@ -81,23 +85,70 @@ pub fn reader(op: u8) -> Option<(u64, u64)> {
     })
 }
 
-/// The sizes of the chunks in which a stream is offered: the bytes of b in turn, 64 where b is 0; they cover the stream.
-pub fn sizes(b: u64, len: usize) -> Vec<usize> {
-    let turn = if b == 0 { [64; 8] } else { b.to_be_bytes() };
-    let mut out = Vec::new();
-    let (mut at, mut i) = (0, 0);
-    while at < len {
-        let size = turn[i % 8] as usize;
-        out.push(size);
+/// The sizes of the chunks in which a stream is offered: the four of b in turn, 64 each where b is 0; they cover the stream.
+fn sizes(b: u64, len: usize) -> Vec<usize> {
+    let turn = if b == 0 { [64; 4] } else { [48, 32, 16, 0].map(|shift| (b >> shift) as u16 as usize) };
+    let mut at = 0;
+    let covers = |&size: &usize| {
+        let more = at < len;
         at += size;
-        i += 1;
+        more
+    };
+    turn.into_iter().cycle().take_while(covers).collect()
+}
+
+/// What a splitter is offered.
+pub struct Offered<'a> {
+    pub hold: usize,
+    /// Stands for the state at the start, on a side that has no state to give: an open frame that is held, or one above H.
+    pub open: Vec<u8>,
+    pub chunks: Vec<&'a [u8]>,
+}
+
+impl<'a> Offered<'a> {
+    /// A split's stream, or a state's chunk. None for a state that no call gives.
+    pub fn of(c: &'a Case) -> Option<Self> {
+        if c.op == SPLIT {
+            let mut rest = &c.data[..];
+            let mut next = |size: usize| {
+                let (chunk, after) = rest.split_at(size.min(rest.len()));
+                rest = after;
+                chunk
+            };
+            let chunks = sizes(c.b, c.data.len()).into_iter().map(&mut next).collect();
+            return Some(Self { hold: c.a as usize, open: Vec::new(), chunks });
+        }
+        let (count, hold, mark) = (c.a, c.b >> 8, c.b as u8);
+        let len = match mark {
+            0 if count <= hold => count,
+            1 if count == 0 => hold + 1,
+            _ => return None,
+        };
+        let mut open = vec![UNTOUCHED; len as usize];
+        if let Some(first) = open.first_mut() {
+            *first = 0xF0;
+        }
+        Some(Self { hold: hold as usize, open, chunks: vec![&c.data] })
     }
-    out
+
+    pub fn all(&self) -> impl Iterator<Item = &[u8]> {
+        once(&self.open[..]).chain(self.chunks.iter().copied())
+    }
+
+    /// The answer with the bytes that were held at the start as the hold buffer has them, where it shows them: they are those
+    /// of the first frame told, or of the one that is still held.
+    pub fn as_held(&self, mut answer: Answer) -> Answer {
+        let held = self.open.len();
+        if answer.whole[0] >= held as i128 {
+            answer.bytes[..held].fill(UNTOUCHED);
+        }
+        answer
+    }
 }
 
 type Fields = Vec<Result<i64, f64>>;
 
-fn by_number(answer: &crate::answer::Answer, counts: &[usize], numbers: usize, skip: usize) -> Fields {
+fn by_number(answer: &Answer, counts: &[usize], numbers: usize, skip: usize) -> Fields {
     let mut whole = answer.whole.iter().skip(skip).map(|&n| n as i64);
     let mut figures = answer.figures.iter().map(|&x| f64::from_bits(x));
     (0..numbers)
@@ -105,15 +156,15 @@ fn by_number(answer: &crate::answer::Answer, counts: &[usize], numbers: usize, s
         .collect()
 }
 
-pub fn flight_fields(a: &crate::answer::Answer) -> Fields {
+pub fn flight_fields(a: &Answer) -> Fields {
     by_number(a, &[0, 14, 15, 16, 17, 18, 19, 36], 52, 0)
 }
 
-pub fn flight_v1_fields(a: &crate::answer::Answer) -> Fields {
+pub fn flight_v1_fields(a: &Answer) -> Fields {
     by_number(a, &[0, 11, 12, 15], 31, 0)
 }
 
 /// ED's first whole number is byte 1, which has no number.
-pub fn club_fields(a: &crate::answer::Answer) -> Fields {
+pub fn club_fields(a: &Answer) -> Fields {
     by_number(a, &[0, 15], 55, 1)
 }

@@ -1,64 +1,8 @@
-//! What the port answers to a case, through the exported library (include/movaleduft.h).
+//! What the port answers to a case, through the exported library (include/movaleduft.h), as bindings/rust declares it.
+//! Every lent place is looked at after the call: what is not answered keeps its bytes.
 use crate::answer::{bits, Answer, Case};
-use crate::ops;
-
-pub mod c {
-    extern "C" {
-        pub fn mvd_read_int16(d: *const u8, n: usize, at: usize, value: *mut i16, v: *mut u64) -> u64;
-        pub fn mvd_read_uint16(d: *const u8, n: usize, at: usize, value: *mut u16, v: *mut u64) -> u64;
-        pub fn mvd_read_int24(d: *const u8, n: usize, at: usize, value: *mut i32, v: *mut u64) -> u64;
-        pub fn mvd_read_uint24(d: *const u8, n: usize, at: usize, value: *mut u32, v: *mut u64) -> u64;
-        pub fn mvd_read_int32(d: *const u8, n: usize, at: usize, value: *mut i32, v: *mut u64) -> u64;
-        pub fn mvd_read_uint32(d: *const u8, n: usize, at: usize, value: *mut u32, v: *mut u64) -> u64;
-        pub fn mvd_read_float40(d: *const u8, n: usize, at: usize, value: *mut f64, v: *mut u64) -> u64;
-        pub fn mvd_read_int24_scaled(d: *const u8, n: usize, at: usize, s: f64, value: *mut f64, v: *mut u64) -> u64;
-        pub fn mvd_read_int16_scaled(d: *const u8, n: usize, at: usize, s: f64, value: *mut f64, v: *mut u64) -> u64;
-        pub fn mvd_write_int16(b: *mut u8, n: usize, at: usize, val: i16, v: *mut u64) -> u64;
-        pub fn mvd_write_uint16(b: *mut u8, n: usize, at: usize, val: u16, v: *mut u64) -> u64;
-        pub fn mvd_write_int24(b: *mut u8, n: usize, at: usize, val: i32, v: *mut u64) -> u64;
-        pub fn mvd_write_uint24(b: *mut u8, n: usize, at: usize, val: u32, v: *mut u64) -> u64;
-        pub fn mvd_write_int32(b: *mut u8, n: usize, at: usize, val: i32, v: *mut u64) -> u64;
-        pub fn mvd_write_uint32(b: *mut u8, n: usize, at: usize, val: u32, v: *mut u64) -> u64;
-        pub fn mvd_write_float40(b: *mut u8, n: usize, at: usize, value: f64, v: *mut u64) -> u64;
-        pub fn mvd_write_float40_bits(b: *mut u8, n: usize, at: usize, bits: u64, v: *mut u64) -> u64;
-        pub fn mvd_open(w: *const u8, wn: usize, h: *mut u64, v: *mut u64) -> u64;
-        pub fn mvd_copy_payload(w: *const u8, wn: usize, b: *mut u8, bn: usize, n: *mut usize, v: *mut u64) -> u64;
-        pub fn mvd_encode(
-            dest: u8, src: u8, type_id: u8, p: *const u8, pn: usize, w: *mut u8, wn: usize, len: *mut usize, v: *mut u64,
-        ) -> u64;
-        pub fn mvd_feed(
-            count: *mut usize, skipping: *mut u8, h: *mut u8, hn: usize, c: *const u8, cn: usize, f: *mut u64, v: *mut u64,
-        ) -> u64;
-        pub fn mvd_flight_result(p: *const u8, pn: usize, w: *mut i32, f: *mut f64, v: *mut u64) -> u64;
-        pub fn mvd_flight_result_v1(p: *const u8, pn: usize, w: *mut i32, f: *mut f64, v: *mut u64) -> u64;
-        pub fn mvd_club_result(p: *const u8, pn: usize, w: *mut i32, f: *mut f64, v: *mut u64) -> u64;
-        pub fn mvd_spin_result(p: *const u8, pn: usize, w: *mut i32, f: *mut f64, v: *mut u64) -> u64;
-        pub fn mvd_tracking_status(p: *const u8, pn: usize, c: *mut u64, w: *mut i32, v: *mut u64) -> u64;
-        pub fn mvd_speed_profile(
-            p: *const u8, pn: usize, s: *mut f64, sn: usize, w: *mut i32, samples: *mut usize, t: *mut f64, v: *mut u64,
-        ) -> u64;
-        pub fn mvd_prc_data(p: *const u8, pn: usize, sequence: *mut i16, points: *mut usize, v: *mut u64) -> u64;
-        pub fn mvd_prc_point(p: *const u8, pn: usize, i: usize, w: *mut i32, f: *mut f64, v: *mut u64) -> u64;
-        pub fn mvd_club_prc(p: *const u8, pn: usize) -> usize;
-        pub fn mvd_club_prc_point(p: *const u8, pn: usize, i: usize, w: *mut i32, f: *mut f64, v: *mut u64) -> u64;
-        pub fn mvd_encode_request(start: u16, b: *mut u8, bn: usize, v: *mut u64) -> u64;
-        pub fn mvd_is_failed(rule: usize, p: *const u8, pn: usize, failed: *mut u8, v: *mut u64) -> u64;
-        pub fn mvd_is_failed_v1(rule: usize, p: *const u8, pn: usize, failed: *mut u8, v: *mut u64) -> u64;
-        pub fn mvd_is_model_failure(p: *const u8, pn: usize, failed: *mut u8, v: *mut u64) -> u64;
-        pub fn mvd_is_no_read(p: *const u8, pn: usize, unread: *mut u8, v: *mut u64) -> u64;
-        pub fn mvd_shot_text(p: *const u8, pn: usize, t: *mut u8, tn: usize) -> usize;
-        pub fn mvd_is_processed(t: *const u8, tn: usize) -> u8;
-        pub fn mvd_is_idle(t: *const u8, tn: usize) -> u8;
-        pub fn mvd_is_trigger(t: *const u8, tn: usize) -> u8;
-        pub fn mvd_field(
-            m: u8, p: *const u8, pn: usize, number: usize, count: *mut i32, figure: *mut f64, is: *mut u8, v: *mut u64,
-        ) -> u64;
-        pub fn mvd_bay_log(event: u32, p: *const u8, pn: usize, b: *mut u8, bn: usize, v: *mut u64) -> u64;
-    }
-}
-
-/// How many values each refusal has.
-const VALUES: [usize; 13] = [0, 1, 1, 0, 2, 2, 1, 3, 2, 0, 1, 1, 1];
+use crate::ops::{self, Offered};
+use movaleduft::c;
 
 /// No call may touch a value that it does not answer.
 const MARK: u64 = 0x5555_5555_5555_5555;
@@ -67,7 +11,7 @@ const MARK: u64 = 0x5555_5555_5555_5555;
 fn told(call: impl FnOnce(*mut u64) -> u64) -> Answer {
     let mut values = [MARK; 4];
     let refusal = call(values.as_mut_ptr());
-    let n = VALUES[refusal as usize];
+    let n = unsafe { c::mvd_value_count(refusal) };
     assert!(values[3] == MARK, "more than three values were written");
     let rest = if refusal == 0 { MARK } else { 0 };
     assert!(values[n..3].iter().all(|&v| v == rest), "a value past the last was written");
@@ -161,15 +105,15 @@ fn encode(c: &Case) -> Answer {
     Answer { whole: said, bytes: buf, ..r }
 }
 
-/// One call of `feed`, held to document 01's words on the hold buffer: it writes exactly the bytes it adds, from the old count on.
+/// A state and its hold buffer.
 pub struct Splitter {
-    pub count: usize,
-    pub skipping: u8,
-    pub hold: Vec<u8>,
+    count: usize,
+    skipping: u8,
+    hold: Vec<u8>,
 }
 
 pub struct Fed {
-    pub event: u64,
+    event: u64,
     pub taken: usize,
     pub frame: Option<(bool, usize, usize)>,
 }
@@ -190,59 +134,69 @@ impl Splitter {
         let frame = (fed[0] == 1).then(|| (fed[2] == 1, fed[3] as usize, fed[4] as usize));
         Fed { event: fed[0], taken: fed[1] as usize, frame }
     }
+
+    /// A chunk, and each untaken rest again until none is left. Each call is held to document 01's words on the hold buffer: it
+    /// writes exactly the bytes it adds, from the old count on.
+    fn offer(&mut self, mut chunk: &[u8], answer: &mut Answer) {
+        loop {
+            let (old_hold, old_count) = (self.hold.clone(), self.count);
+            let fed = self.feed(chunk);
+            assert!(fed.taken <= chunk.len() && (fed.taken > 0 || chunk.is_empty()), "taken {} of {}", fed.taken, chunk.len());
+            let added = match fed.frame {
+                Some((true, _, len)) => len - old_count,
+                Some((false, _, _)) => 0,
+                None => self.count.saturating_sub(old_count),
+            };
+            let mut expected = old_hold;
+            expected[old_count..old_count + added].copy_from_slice(&chunk[fed.taken - added..fed.taken]);
+            assert!(fed.event != 0 || self.count >= old_count || self.skipping == 1, "held bytes were lost");
+            assert!(self.hold == expected, "the hold buffer has other bytes than those added");
+            match (fed.event, fed.frame) {
+                (1, Some((in_hold, start, len))) => {
+                    answer.whole.push(len as i128);
+                    answer.bytes.extend_from_slice(&(if in_hold { &self.hold } else { chunk })[start..start + len]);
+                }
+                (2, _) => answer.whole.push(-1),
+                _ => assert_eq!(fed.taken, chunk.len(), "More with bytes untaken"),
+            }
+            chunk = &chunk[fed.taken..];
+            if chunk.is_empty() {
+                break;
+            }
+        }
+    }
+
+    /// The count and the mark at the end, and the bytes held.
+    fn end(self, mut answer: Answer) -> Answer {
+        answer.whole.extend([self.count as i128, self.skipping as i128]);
+        answer.bytes.extend_from_slice(&self.hold[..self.count]);
+        answer
+    }
 }
 
 fn split(c: &Case) -> Answer {
     let mut s = Splitter::new(c.a as usize);
     let mut answer = Answer::default();
-    let mut at = 0;
-    for size in ops::sizes(c.b, c.data.len()) {
-        let end = (at + size).min(c.data.len());
-        loop {
-            let (old_hold, old_count) = (s.hold.clone(), s.count);
-            let chunk = &c.data[at..end];
-            let fed = s.feed(chunk);
-            assert!(fed.taken <= chunk.len() && (fed.taken > 0 || chunk.is_empty()), "taken {} of {}", fed.taken, chunk.len());
-            let added = match fed.frame {
-                Some((true, _, len)) => len - old_count,
-                Some((false, _, _)) => 0,
-                None => s.count.saturating_sub(old_count),
-            };
-            let mut expected = old_hold;
-            expected[old_count..old_count + added].copy_from_slice(&chunk[fed.taken - added..fed.taken]);
-            assert!(fed.event != 0 || s.count >= old_count || s.skipping == 1, "held bytes were lost");
-            assert_eq!(s.hold, expected, "the hold buffer has other bytes than those added");
-            match (fed.event, fed.frame) {
-                (1, Some((in_hold, start, len))) => {
-                    answer.whole.push(len as i128);
-                    answer.bytes.extend_from_slice(if in_hold { &s.hold[start..start + len] } else { &chunk[start..start + len] });
-                }
-                (2, _) => answer.whole.push(-1),
-                _ => assert_eq!(fed.taken, chunk.len(), "More with bytes untaken"),
-            }
-            at += fed.taken;
-            if at == end {
-                break;
-            }
-        }
-    }
-    answer.whole.extend([s.count as i128, s.skipping as i128]);
-    answer.bytes.extend_from_slice(&s.hold[..s.count]);
-    answer
+    let offered = Offered::of(c).expect("a split starts fresh");
+    offered.chunks.iter().for_each(|chunk| s.offer(chunk, &mut answer));
+    s.end(answer)
 }
 
-/// A state that no run of `feed` leaves: 9 where document 01 says so, and nothing is altered; else whatever it is, it ends.
+/// A state that the caller gives: 9 where document 01 says so, and nothing is altered; else it goes on as a split does.
 fn state(c: &Case) -> Answer {
-    let (mut count, mut skipping) = (c.a as usize, c.b as u8);
-    let mut hold: Vec<u8> = c.data.clone();
-    let mut fed = [MARK; 6];
-    let r = told(|v| unsafe {
-        c::mvd_feed(&mut count, &mut skipping, hold.as_mut_ptr(), hold.len(), c.data.as_ptr(), 0, fed.as_mut_ptr(), v)
-    });
-    if r.refusal != 0 {
-        assert!(count as u64 == c.a && skipping == c.b as u8 && fed == [MARK; 6], "a refusal wrote");
+    let mut s = Splitter { count: c.a as usize, skipping: c.b as u8, hold: vec![ops::UNTOUCHED; (c.b >> 8) as usize] };
+    if Offered::of(c).is_some() {
+        let mut answer = Answer::default();
+        s.offer(&c.data, &mut answer);
+        return s.end(answer);
     }
-    assert!(fed[5] == MARK && hold == c.data, "an empty chunk altered the hold buffer");
+    let mut fed = [MARK; 5];
+    let r = told(|v| unsafe {
+        let (h, room, f) = (s.hold.as_mut_ptr(), s.hold.len(), fed.as_mut_ptr());
+        c::mvd_feed(&mut s.count, &mut s.skipping, h, room, c.data.as_ptr(), c.data.len(), f, v)
+    });
+    assert!(s.count as u64 == c.a && s.skipping == c.b as u8 && fed == [MARK; 5], "a bad state was altered");
+    assert!(s.hold.iter().all(|&b| b == ops::UNTOUCHED), "a bad state altered the hold buffer");
     r
 }
 
@@ -305,13 +259,12 @@ fn test(call: impl FnOnce(*mut u8, *mut u64) -> u64) -> Answer {
 }
 
 fn text(c: &Case) -> Answer {
-    let mut buf = vec![ops::UNTOUCHED; c.data.len() + 1];
-    let n = unsafe { c::mvd_shot_text(c.data.as_ptr(), c.data.len(), buf.as_mut_ptr(), buf.len()) };
-    assert!(buf[n..].iter().all(|&b| b == ops::UNTOUCHED), "more was written than the text");
-    buf.truncate(n);
-    let (p, len) = (buf.as_ptr(), buf.len());
-    let said = unsafe { [c::mvd_is_processed(p, len), c::mvd_is_idle(p, len), c::mvd_is_trigger(p, len)] };
-    Answer { bytes: buf, ..whole(&said.map(i64::from)) }
+    let (mut start, mut len) = (usize::MAX, usize::MAX);
+    unsafe { c::mvd_shot_text(c.data.as_ptr(), c.data.len(), &mut start, &mut len) };
+    let part = &c.data[start..start + len];
+    let (p, n) = (part.as_ptr(), part.len());
+    let said = unsafe { [c::mvd_is_processed(p, n), c::mvd_is_idle(p, n), c::mvd_is_trigger(p, n)] };
+    Answer { bytes: part.to_vec(), ..whole(&[&[start as i64, len as i64][..], &said.map(i64::from)].concat()) }
 }
 
 fn field(c: &Case) -> Answer {
@@ -354,7 +307,7 @@ pub fn ask(c: &Case) -> Answer {
         ops::WRITE_UINT24 => write!(mvd_write_uint24, c, val),
         ops::WRITE_INT32 => write!(mvd_write_int32, c, val as i32),
         ops::WRITE_UINT32 => write!(mvd_write_uint32, c, val),
-        ops::WRITE_FLOAT40 => write!(mvd_write_float40, c, f64::from_bits(c.b)),
+        ops::WRITE_FLOAT40 => write!(mvd_write_float40_bits, c, f64::from_bits(c.b).to_bits()),
         ops::WRITE_FLOAT40_BITS => write!(mvd_write_float40_bits, c, c.b),
         ops::OPEN => open(c),
         ops::COPY_PAYLOAD => copy_payload(c),
