@@ -22,7 +22,8 @@ const CASES: u64 = 10_000_000;
 const USAGE: &str = "\
 beside [CASES [SEED]]   compare: short inputs all, the boundaries, and CASES random ones (10000000) of SEED (2026)
 beside mantissas        compare FLOAT40 read: each leading one at every exponent, every mantissa at a few exponents
-beside bench            the time of both sides, in pairs, and the ratio
+beside bench [GROUP]    the time of both sides, in pairs, and how many times as fast as the Rust the port is;
+                        GROUP alone: fields, messages, frames, specials, sizes, streams or worst
 beside differences      the inputs of docs/DIFFERENCES.md, and what each side answers
 beside list DIR         write the fixed list: DIR/stdin has the cases, DIR/stdout the Rust's answers";
 
@@ -95,7 +96,8 @@ fn main() {
     let args: Vec<String> = std::env::args_os().skip(1).map(|word| word.to_string_lossy().into_owned()).collect();
     match args.iter().map(String::as_str).collect::<Vec<_>>()[..] {
         ["--help"] => println!("{USAGE}"),
-        ["bench"] => bench::run(),
+        ["bench"] => bench::run(&bench::GROUPS),
+        ["bench", group] => bench::run(bench::group(group).unwrap_or_else(|| refuse(group))),
         ["differences"] => differences::run(),
         ["mantissas"] => mantissas(),
         ["list", dir] => {

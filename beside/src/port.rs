@@ -106,24 +106,24 @@ fn encode(c: &Case) -> Answer {
 }
 
 /// A state and its hold buffer.
-pub struct Splitter {
+struct Splitter {
     count: usize,
     skipping: u8,
     hold: Vec<u8>,
 }
 
-pub struct Fed {
+struct Fed {
     event: u64,
-    pub taken: usize,
-    pub frame: Option<(bool, usize, usize)>,
+    taken: usize,
+    frame: Option<(bool, usize, usize)>,
 }
 
 impl Splitter {
-    pub fn new(room: usize) -> Self {
+    fn new(room: usize) -> Self {
         Self { count: 0, skipping: 0, hold: vec![ops::UNTOUCHED; room] }
     }
 
-    pub fn feed(&mut self, chunk: &[u8]) -> Fed {
+    fn feed(&mut self, chunk: &[u8]) -> Fed {
         let (mut fed, mut values) = ([MARK; 5], [MARK; 3]);
         let (hold, room) = (self.hold.as_mut_ptr(), self.hold.len());
         let refusal = unsafe {
