@@ -69,9 +69,12 @@ entry-counts k =
 pub past-counts : (k : ℕ) → 13 ≤ k → Counts k 0
 past-counts k h = rw (none-past k h) at (entry-counts k)
 
+-- a number is a refusal's, or no refusal's
+either : {P : Type 0} (k : ℕ) → ((e : WireError) → numberOf e ≡ k → P) → (((e : WireError) → numberOf e ≡ k → ⊥) → P) → P
+either k y n =
+    by-eq k 0 (λ z. n (λ e p. let q = counted e .1 in omega arith))
+    (λ z. by-lt k 13 (λ l. y (refusal k) (number k (omega arith) l)) (λ h. n (λ e p. let q = counted e .2 in omega arith)))
+
 -- no other count is
 pub one-counts : {k n m : ℕ} → Counts k n → Counts k m → n ≡ m
-one-counts {k} {n} {m} a b =
-    by-lt k 13
-    (λ l. by-eq k 0 (λ z. let f : (e : WireError) → numberOf e ≡ k → ⊥ = (λ e p. let q = counted e .1 in omega arith) in a .none f ∙ sym (b .none f)) (λ z. let e = number k (omega arith) l in a .some (refusal k) e ∙ sym (b .some (refusal k) e)))
-    (λ h. let f : (e : WireError) → numberOf e ≡ k → ⊥ = (λ e p. let q = counted e .2 in omega arith) in a .none f ∙ sym (b .none f))
+one-counts {k} a b = either k (λ e p. a .some e p ∙ sym (b .some e p)) (λ f. a .none f ∙ sym (b .none f))

@@ -8,7 +8,8 @@ use Rattle.cases.proofs.replay.Statement.{statement}
 use Rattle.cases.proofs.replay.Tie as tie
 
 abbrev Inv-loop : tie.InvT-loop
-Inv-loop piece₀ line₀ out₀ at₀ turns₀ t8 piece line out at turns = (length piece ≡ length piece₀) × (length line ≡ length line₀) × (length out ≡ length out₀)
+Inv-loop piece₀ line₀ out₀ at₀ turns₀ t8 piece line out at turns =
+    (length piece ≡ length piece₀) × (length line ≡ length line₀) × (length out ≡ length out₀)
 
 abbrev μ-loop : tie.MeasureT-loop
 μ-loop piece₀ line₀ out₀ at₀ turns₀ t8 piece line out at turns = turns

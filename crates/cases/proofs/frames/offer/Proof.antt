@@ -7,7 +7,8 @@ use Rattle.cases.proofs.frames.offer.Statement.{statement}
 use Rattle.cases.proofs.frames.offer.Tie as tie
 
 abbrev Inv-loop : tie.InvT-loop
-Inv-loop first stream hold₀ shown out₀ state₀ sizes₀ end₀ turns₀ hold out state sizes end turns = (length hold ≡ length hold₀) × (length out ≡ length out₀)
+Inv-loop first stream hold₀ shown out₀ state₀ sizes₀ end₀ turns₀ hold out state sizes end turns =
+    (length hold ≡ length hold₀) × (length out ≡ length out₀)
 
 abbrev μ-loop : tie.MeasureT-loop
 μ-loop first stream hold₀ shown out₀ state₀ sizes₀ end₀ turns₀ hold out state sizes end turns = turns
