@@ -60,17 +60,20 @@ pub(crate) fn figures5(
     ]
 }
 
-// 36 figures in a row that have one divisor.
+// 36 figures in a row that have one divisor, three a turn: one, two or four a turn are turned into vectors, which take longer to fill than to divide.
+// What stands there before is any number but 0.0, for which the compiler would call memset.
 pub(crate) fn figures36(payload: &[u8], at: usize, divisor: u32, scale: f64) -> [f64; 36]
     requires { ⌜ at + 108 ≤ length (now payload) ⌝ }
     ensures { λ r. ⌜ r ≡ row 36 (λ j. divided divisor scale (intAt 3 (now (payload .entry)) (at + 3 * j))) ⌝ }
 {
-    let part = &payload[at..at + 108];
-    let mut figures = [0.0; 36];
-    let mut j = 0usize;
-    while j < 36 {
-        figures[j] = figure(int24_at(part, 3 * j), divisor, scale);
-        j += 1;
+    let mut figures = [1.0; 36];
+    let mut k = 0usize;
+    while k < 12 {
+        let part = &payload[at + 9 * k..at + 9 * k + 9];
+        figures[3 * k] = figure(int24_at(part, 0), divisor, scale);
+        figures[3 * k + 1] = figure(int24_at(part, 3), divisor, scale);
+        figures[3 * k + 2] = figure(int24_at(part, 6), divisor, scale);
+        k += 1;
     }
     figures
 }
