@@ -1,10 +1,10 @@
 -- A wire by its parts, as they are measured and as they are stored: the head, the payload, the checksum.
 -- The three parts together are the wire, in length and byte by byte.
-use mathlib.Core.Path.{_≡_, sym, ap, _∙_}
+use mathlib.Core.Path.{_≡_, refl, sym, ap, _∙_}
 use mathlib.Core.List.{List, [], _∷_, _++_, append-assoc}
-use Prim.Native.Nat.{ℕ, _+_, _-_, _/_, _%_, _≤_}
+use Prim.Native.Nat.{ℕ, _+_, _-_, _*_, _/_, _%_, _≤_}
 use native.Mathlib.Omega.{arith}
-use lib.ListN.{length, set, length-append}
+use lib.ListN.{length, take, drop, set, length-append, length-set}
 use lib.Seq.{sets}
 use Rattle.addr.specs.Address.{byteOf}
 use Rattle.stuffing.specs.Stuff.{stuff, sum16}
@@ -12,6 +12,7 @@ use Rattle.stuffing.proofs.Stuffing.{stuff-append, stuff-least, stuff-most}
 use Rattle.stuffing.proofs.Sums.{sum-append}
 use Rattle.encoding.specs.Wire.{Fields, bodyOf, checksumOf, wireOf}
 use Rattle.general.proofs.Stores.{sets-append}
+use Rattle.encoding.proofs.Stores.{read-again}
 
 -- what a tally counts of a string of at most 65,535 bytes
 pub tallied : (s : List ℕ) {more : ℕ} → more ≡ (length (stuff s) - length s) % 65536 → length s ≤ 65535 → more + length s ≡ length (stuff s)
@@ -29,6 +30,20 @@ module _ (f : Fields) (head : List ℕ) (is : head ≡ byteOf (f .dest) ∷ byte
   -- by the two tallies
   pub checksum-tallied : {h p n : ℕ} → h ≡ sum16 (stuff head) → p ≡ sum16 (stuff (f .payload)) → n ≡ (h + p) % 65536 → n ≡ checksumOf f
   checksum-tallied he pe e = e ∙ (λ j. (he j + pe j) % 65536) ∙ sym checksum-is
+
+  -- by the stuffed bytes, where they were stored
+  pub checksum-written : (old b1 b2 : List ℕ) (a1 a2 : ℕ) {n : ℕ} → a2 ≤ length old
+      → b1 ≡ sets (set old 0 0xF0) 1 (stuff head) → a1 ≡ 1 + length (stuff head)
+      → b2 ≡ sets b1 a1 (stuff (f .payload)) → a2 ≡ a1 + length (stuff (f .payload))
+      → n ≡ sum16 (take (a2 - 1) (drop 1 b2)) → n ≡ checksumOf f
+  unfolding checksumOf
+  checksum-written old b1 b2 a1 a2 room e1 f1 e2 f2 e =
+      let w = stuff head ++ stuff (f .payload) in
+      let l = set old 0 0xF0 in
+      let x : b2 ≡ sets l 1 w = e2 ∙ (λ j. sets (e1 j) (f1 j) (stuff (f .payload))) ∙ sets-append (stuff head) (stuff (f .payload)) l 1 in
+      let n : length w ≡ a2 - 1 = omega (arith, length-append (stuff head) (stuff (f .payload))) in
+      let fits : 1 + (a2 - 1) ≤ length l = omega (arith, length-set old 0 0xF0) in
+      e ∙ ap (λ (b : List ℕ). sum16 (take (a2 - 1) (drop 1 b))) x ∙ ap sum16 (read-again w l 1 (a2 - 1) fits n ∙ sym body-is)
 
   module _ (n : ℕ) (cs : n ≡ checksumOf f) where
     abbrev tail : List ℕ
@@ -71,3 +86,10 @@ module _ (f : Fields) (head : List ℕ) (is : head ≡ byteOf (f .dest) ∷ byte
         let x3 : sets b1 a1 (pay ++ (stuff tail ++ end)) ≡ sets (set old 0 0xF0) 1 (stuff head ++ (pay ++ (stuff tail ++ end)))
         = cc (sets-append (stuff head) (pay ++ (stuff tail ++ end)) (set old 0 0xF0) 1) in
         rw parts (x1 ∙ x2 ∙ x3)
+
+-- no wire is longer: each byte between the marks gets two
+pub wire-most : (f : Fields) → length (wireOf f) ≤ 2 * length (f .payload) + 12
+wire-most f =
+    let head : List ℕ = byteOf (f .dest) ∷ byteOf (f .src) ∷ f .type ∷ [] in
+    let tail : List ℕ = checksumOf f / 256 ∷ checksumOf f % 256 ∷ [] in
+    omega (arith, wire-length f head refl (checksumOf f) refl, stuff-most head, stuff-most (f .payload), stuff-most tail)

@@ -4,6 +4,7 @@ use borrow.Author.Needs.{needs}
 use mathlib.Core.Path.{_≡_, refl, ap}
 use mathlib.Core.List.{[], _∷_}
 use Prim.Native.Nat.{_≤_}
+use native.Mathlib.Omega.{arith}
 use lib.ListN.{length}
 use Rattle.error.specs.Refusal.{yes, no}
 use Rattle.encoding.specs.Wire.{Fields, fields, wireOf}
@@ -21,9 +22,9 @@ module _ (c : tie.Then2) where
   abbrev entry : tie.Start
   entry = c .before .before .before .before .before
 
-  short : encodeRule (frameOf entry) (length (entry .args .wire .now)) ≡ no 8 (c .before .measure .result .need ∷ length (entry .args .wire .now) ∷ [])
+  short : encodeRule (frameOf entry) (length (entry .args .wire .now)) ≡ no 8 (c .before .enough .result .need ∷ length (entry .args .wire .now) ∷ [])
   short =
-      let e = c .before .measure .ensures .0 in
+      let e = c .before .enough .ensures .0 .1 (c .if2 .taken) in
       rw (encode-room (frameOf entry) (length (entry .args .wire .now)) (c .before .before .if1 .left) (rw (← e) (c .if2 .taken)), ← e) refl
 
 returns : tie.Need-returns
@@ -31,8 +32,8 @@ returns c =
     let a = c .before .before .before in
     rw (encode-long (frameOf a) (length (a .args .wire .now)) (c .if1 .taken)) (refl, refl)
 
-measure-requires : tie.Need-measure-requires
-measure-requires c κs = search needs
+enough-requires : tie.Need-enough-requires
+enough-requires c κs = search needs
 
 returns-2 : tie.Need-returns-2
 returns-2 c = rw (short c) (refl, refl)
@@ -50,11 +51,10 @@ returns-3 c =
     let m = f .before in
     let i = m .before in
     let a = i .before .before .before in
-    let e = m .measure .ensures .0 in
-    let room : length (wireOf (frameOf a)) ≤ length (a .args .wire .now) = rw (← e) (f .if2 .left) in
+    let room : length (wireOf (frameOf a)) ≤ length (a .args .wire .now) = omega (arith, m .enough .ensures .0 .0, f .if2 .left) in
     rw (encode-fits (frameOf a) (length (a .args .wire .now)) (i .if1 .left) room)
-    (ap yes e, front (wireOf (frameOf a)) (a .args .wire .now) room (p .put-wire .ensures))
+    (ap yes (p .put-wire .ensures .0), front (wireOf (frameOf a)) (a .args .wire .now) room (p .put-wire .ensures .1))
 
 pub encode-spec : {M : Type 1} → statement M
 encode-spec =
-    tie.close (tie.spec returns measure-requires returns-2 put-wire-requires same-length returns-3)
+    tie.close (tie.spec returns enough-requires returns-2 put-wire-requires same-length returns-3)
