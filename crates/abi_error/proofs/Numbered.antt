@@ -14,7 +14,7 @@ use Rattle.error.specs.declared.WireError.{WireError}
 use Rattle.error.specs.declared.WireError.the-variants.{FrameTooShort, MissingStart, MissingEnd, InvalidEscape, ChecksumMismatch, UnknownBusAddr}
 use Rattle.error.specs.declared.WireError.the-variants.{PayloadTooShort, NoRoom, BadState, PayloadTooLong, NoField, CutEscape}
 use Rattle.error.specs.Refusal.{numberOf, valuesOf}
-use Rattle.abi_error.specs.Counts.{Counts}
+use Rattle.abi_error.specs.ValueCount.{ValueCount}
 
 abbrev pub counts : List ℕ
 counts = 0 ∷ 1 ∷ 1 ∷ 0 ∷ 2 ∷ 2 ∷ 1 ∷ 3 ∷ 2 ∷ 0 ∷ 1 ∷ 1 ∷ 1 ∷ []
@@ -56,7 +56,7 @@ none-past : (k : ℕ) → 13 ≤ k → getD counts k 0 ≡ 0
 none-past k h = List·getD-eq-default counts 0 h
 
 -- the list's entry counts the values of the refusals of a number
-pub entry-counts : (k : ℕ) → Counts k (getD counts k 0)
+pub entry-counts : (k : ℕ) → ValueCount k (getD counts k 0)
 entry-counts k =
     record {
       some = λ e p. ap (λ (n : ℕ). getD counts n 0) (sym p) ∙ counted e .0;
@@ -66,7 +66,7 @@ entry-counts k =
     }
 
 -- where no refusal has the number
-pub past-counts : (k : ℕ) → 13 ≤ k → Counts k 0
+pub past-counts : (k : ℕ) → 13 ≤ k → ValueCount k 0
 past-counts k h = rw (none-past k h) at (entry-counts k)
 
 -- a number is a refusal's, or no refusal's
@@ -76,5 +76,5 @@ either k y n =
     (λ z. by-lt k 13 (λ l. y (refusal k) (number k (omega arith) l)) (λ h. n (λ e p. let q = counted e .2 in omega arith)))
 
 -- no other count is
-pub one-counts : {k n m : ℕ} → Counts k n → Counts k m → n ≡ m
+pub one-counts : {k n m : ℕ} → ValueCount k n → ValueCount k m → n ≡ m
 one-counts {k} a b = either k (λ e p. a .some e p ∙ sym (b .some e p)) (λ f. a .none f ∙ sym (b .none f))

@@ -1,3 +1,3 @@
 -- How many values a refusal has, by its number.
 -- Its contract cites no other definition of this crate.
-pub mod Counts
+pub mod ValueCount

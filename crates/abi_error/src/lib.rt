@@ -1,13 +1,13 @@
 // Refusals for C: how many values the refusal of a number has.
 // Who prints or compares a refusal asks this call, and keeps no table of its own.
-ghost use Rattle.abi_error.specs.Counts.{Counts};
+ghost use Rattle.abi_error.specs.ValueCount.{ValueCount};
 
 // By number; no refusal's number is 0.
 const COUNTS: [usize; 13] = [0, 1, 1, 0, 2, 2, 1, 3, 2, 0, 1, 1, 1];
 
 #[no_mangle]
 pub extern "C" fn mvd_value_count(refusal: u64) -> usize
-    ensures { λ n. ⌜ Counts refusal n ⌝ }
+    ensures { λ n. ⌜ ValueCount refusal n ⌝ }
 {
     if refusal < 13 {
         COUNTS[refusal as usize]

@@ -19,7 +19,7 @@ fn main() {
 }
 
 // Where the reading stands: the number of the line, how much of it is there, and whether every line so far was answered.
-struct Place {
+struct Reading {
     number: u64,
     len: usize,
     is_sound: bool,
@@ -27,7 +27,7 @@ struct Place {
 
 // Each piece of the input in turn. A proved loop has to end: the turns are counted down from a number that no run uses up.
 fn replay(piece: &mut [u8], line: &mut [u8], out: &mut [u8]) {
-    let mut at = Place {
+    let mut at = Reading {
         number: 1,
         len: 0,
         is_sound: true,
@@ -51,14 +51,14 @@ fn replay(piece: &mut [u8], line: &mut [u8], out: &mut [u8]) {
 }
 
 // At the end of the input nothing is left of a line.
-fn ended(at: Place) {
+fn ended(at: Reading) {
     if 0 < at.len {
         program::wrong(b"cases", at.number, b"has no line feed at its end");
     }
 }
 
 // The lines that end in a piece, each behind what an earlier piece left of it.
-fn lines(start: Place, piece: &[u8], line: &mut [u8], out: &mut [u8]) -> Place {
+fn lines(start: Reading, piece: &[u8], line: &mut [u8], out: &mut [u8]) -> Reading {
     let mut at = start;
     let mut i = 0;
     while i < piece.len() {
@@ -72,12 +72,12 @@ fn lines(start: Place, piece: &[u8], line: &mut [u8], out: &mut [u8]) -> Place {
 }
 
 // One byte more: a line feed ends the line, any other byte is put behind it.
-fn next(at: Place, byte: u8, line: &mut [u8], out: &mut [u8]) -> Place {
+fn next(at: Reading, byte: u8, line: &mut [u8], out: &mut [u8]) -> Reading {
     let number = at.number;
     let len = at.len;
     if byte == b'\n' {
         let n = within(len, line);
-        return Place {
+        return Reading {
             number: std::num::wrapping_add_u64(number, 1),
             len: 0,
             is_sound: answered(number, &line[..n], out),
@@ -85,14 +85,14 @@ fn next(at: Place, byte: u8, line: &mut [u8], out: &mut [u8]) -> Place {
     }
     if len < line.len() {
         line[len] = byte;
-        return Place {
+        return Reading {
             number,
             len: len + 1,
             is_sound: true,
         };
     }
     program::wrong(b"cases", number, b"has more than 4096 bytes");
-    Place {
+    Reading {
         number,
         len,
         is_sound: false,

@@ -14,6 +14,7 @@ use borrow.Author.Tests.{eq-eqb, ne-eqb, le-leb}
 use Rattle.general.proofs.Cases.{by-eq}
 use Rattle.general.proofs.Stores.{sets-append}
 use Rattle.stuffing.specs.Stuff.{escapeOf, stuffByte, stuff}
+use Rattle.encoding.specs.Private.{lastOf}
 use Rattle.stuffing.proofs.Codes.{plain, escaped}
 use Rattle.stuffing.proofs.Stuffing.{stuff-append}
 
@@ -67,7 +68,7 @@ module _ (b : ℕ) where
       (λ h. e ∙ rw (is, eq-eqb (escapeOf b) 0 h, plain b h))
       (λ h. e ∙ rw (is, ne-eqb (escapeOf b) 0 h, escaped b h))
 
-  pub byte-stored : (w last : ℕ) → w ≡ length (stuffByte b) → last ≡ cond (eqb (escapeOf b) 0) b (escapeOf b)
+  pub byte-stored : (w last : ℕ) → w ≡ length (stuffByte b) → last ≡ lastOf b
       → (old : List ℕ) (at : ℕ) → set (set old at 0xFD) (at + w - 1) last ≡ sets old at (stuffByte b)
   byte-stored w last we le old at =
       by-eq (escapeOf b) 0

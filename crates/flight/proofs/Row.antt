@@ -5,8 +5,8 @@ use mathlib.Core.Path.{_≡_, refl, sym, _∙_, ap}
 use mathlib.Core.List.{List}
 use native.Mathlib.Omega.{arith}
 use lib.ListN.{length, getD, set, replicate, length-set, length-replicate}
-use lib.Seq.{getD-set-same, getD-set-other, ext-getD}
-use borrow.Author.Count.{below-more}
+use lib.Seq.{ext-getD}
+use Rattle.general.proofs.Stores.{front-more}
 use Rattle.layout.specs.Layout.{row}
 
 module _ {A : Type 0} (f : ℕ → A) (d : A) where
@@ -24,9 +24,7 @@ module _ {A : Type 0} (f : ℕ → A) (d : A) where
   filled-more : {k n : ℕ} {xs : List A} {v : A} → Filled k n xs → n < k → v ≡ f n → Filled k (n + 1) (set xs n v)
   filled-more {k} {n} {xs} {v} w h e = record {
     long = length-set xs n v ∙ w .long;
-    front = below-more (λ (j : ℕ). getD (set xs n v) j d ≡ f j) n
-        (λ j q. getD-set-other xs n j v d (λ t. omega arith) ∙ w .front j q)
-        (getD-set-same xs n v d (rw (w .long) h) ∙ e);
+    front = front-more f d xs n (rw (w .long) h) e (w .front);
   }
 
   pub filled-three : {k n : ℕ} {xs : List A} {u v w : A} → Filled k n xs → n + 2 < k → u ≡ f n → v ≡ f (n + 1) → w ≡ f (n + 2)

@@ -121,8 +121,8 @@ module _ (s : List ℕ) where
       ∙ ap (take (length (textOf s))) (drop-append-seam (t .front) (textOf s ++ t .back))
       ∙ take-append-seam (textOf s) (t .back)
 
-  pub within : textStart s + length (textOf s) ≤ length s
-  within =
+  pub lies-within : textStart s + length (textOf s) ≤ length s
+  lies-within =
       let t = trimmed in
       omega (arith, t .start, ap length behind, length-append (t .front) (textOf s ++ t .back), length-append (textOf s) (t .back))
 

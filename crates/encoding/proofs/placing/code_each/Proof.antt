@@ -1,16 +1,14 @@
 -- `code_each` meets its contract: what is noted so far is right for each byte passed.
 -- That is the loop's invariant, for both lists alike.
-use borrow.Author.Count.{below-none, below-more}
+use borrow.Author.Count.{below-none}
 use borrow.Author.Needs.{needs}
 use mathlib.Core.Path.{_≡_, _∙_}
-use mathlib.Core.Bool.{cond}
-use mathlib.Core.List.{List}
 use Prim.Native.Nat.{ℕ, _+_, _-_, _≤_, _<_}
 use native.Mathlib.Omega.{arith}
-use lib.Dec.{eqb}
-use lib.ListN.{length, getD, set, length-set}
-use lib.Seq.{getD-set-same, getD-set-other}
-use Rattle.stuffing.specs.Stuff.{escapeOf, stuffByte}
+use lib.ListN.{length, getD, length-set}
+use Rattle.general.proofs.Stores.{front-more}
+use Rattle.stuffing.specs.Stuff.{stuffByte}
+use Rattle.encoding.specs.Private.{lastOf}
 use Rattle.encoding.proofs.Stores.{width-of}
 use Rattle.encoding.proofs.placing.code_each.Statement.{statement}
 use Rattle.encoding.proofs.placing.code_each.Tie as tie
@@ -20,19 +18,11 @@ Inv-loop s last₀ width₀ k₀ last width k =
     (k ≤ length s)
     × (length last ≡ 64)
     × (length width ≡ 64)
-    × ((j : ℕ) → j < k → getD last j 0 ≡ cond (eqb (escapeOf (getD s j 0)) 0) (getD s j 0) (escapeOf (getD s j 0)))
+    × ((j : ℕ) → j < k → getD last j 0 ≡ lastOf (getD s j 0))
     × ((j : ℕ) → j < k → getD width j 0 ≡ length (stuffByte (getD s j 0)))
 
 abbrev μ-loop : tie.MeasureT-loop
 μ-loop s last₀ width₀ k₀ last width k = length s - k
-
--- one byte more is noted
-noted : (f : ℕ → ℕ) (l : List ℕ) (k x : ℕ) → k < length l → x ≡ f k → ((j : ℕ) → j < k → getD l j 0 ≡ f j)
-    → (j : ℕ) → j < k + 1 → getD (set l k x) j 0 ≡ f j
-noted f l k x h e all =
-    below-more (λ j. getD (set l k x) j 0 ≡ f j) k
-    (λ j q. getD-set-other l k j x 0 (λ z. let n : ⊥ = omega (arith, q, z) in n) ∙ all j q)
-    (getD-set-same l k x 0 h ∙ e)
 
 loop-holds : tie.Need-loop-holds Inv-loop μ-loop
 loop-holds c = (omega arith, c .before .pre .1, c .before .pre .2, below-none _, below-none _)
@@ -74,16 +64,16 @@ loop-again c =
       omega (arith, t .loop-test .taken),
       simp length-set (i .1),
       simp length-set (i .2),
-      noted (λ j. cond (eqb (escapeOf (getD s j 0)) 0) (getD s j 0) (escapeOf (getD s j 0))) (l .loop .last) k (x .select .result)
+      front-more (λ j. lastOf (getD s j 0)) 0 (l .loop .last) k
           (omega (arith, i .1, a .pre .0, t .loop-test .taken)) (x .select .ensures ∙ rw (e .escape-code .ensures)) (i .3),
-      noted (λ j. length (stuffByte (getD s j 0))) (l .loop .width) k (c .select2 .result) (omega (arith, i .2, a .pre .0, t .loop-test .taken))
+      front-more (λ j. length (stuffByte (getD s j 0))) 0 (l .loop .width) k (omega (arith, i .2, a .pre .0, t .loop-test .taken))
           (width-of (getD s k 0) (e .escape-code .result) (c .select2 .result) (e .escape-code .ensures) (c .select2 .ensures)) (i .4),
     )
 
 returns : tie.Need-returns Inv-loop μ-loop
 returns c =
     let i = c .before .loop .inv in
-    (λ k q. i .3 k (omega (arith, q, c .loop-test .left)), λ k q. i .4 k (omega (arith, q, c .loop-test .left)))
+    record { lasts = λ k q. i .3 k (omega (arith, q, c .loop-test .left)); widths = λ k q. i .4 k (omega (arith, q, c .loop-test .left)) }
 
 pub code-each-spec : {M : Type 1} → statement M
 code-each-spec =

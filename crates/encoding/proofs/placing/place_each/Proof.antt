@@ -49,14 +49,14 @@ module _ (t : tie.In-loop Inv-loop μ-loop) where
       omega (arith, ap length e, length-append (stuffByte byte) (stuff (drop (k + 1) s)), l .loop .inv .1, l .loop .inv .3, entry .pre .1)
 
   span : getD (entry .args .width .now) (l .loop .k) 0 ≡ length (stuffByte byte)
-  span = entry .pre .3 (l .loop .k) (t .loop-test .taken)
+  span = entry .pre .2 .widths (l .loop .k) (t .loop-test .taken)
 
   stored : set (set (l .loop .buf) (l .loop .o) 0xFD) (l .loop .o + getD (entry .args .width .now) (l .loop .k) 0 - 1)
       (getD (entry .args .last .now) (l .loop .k) 0)
       ≡ sets (l .loop .buf) (l .loop .o) (stuffByte byte)
   stored =
       byte-stored byte (getD (entry .args .width .now) (l .loop .k) 0) (getD (entry .args .last .now) (l .loop .k) 0) span
-      (entry .pre .2 (l .loop .k) (t .loop-test .taken)) (l .loop .buf) (l .loop .o)
+      (entry .pre .2 .lasts (l .loop .k) (t .loop-test .taken)) (l .loop .buf) (l .loop .o)
 
 loop-holds : tie.Need-loop-holds Inv-loop μ-loop
 loop-holds c = (search needs, refl, refl, refl)

@@ -21,7 +21,8 @@ abbrev placed : List ℕ → ℕ → ℕ → Float → ℕ → Float
 placed p at d s j = divided d s (intAt 3 p (at + 3 * j))
 
 -- number m of turn k, as it is read in the turn's part of 9 bytes, is number j of the row
-turned : (p : List ℕ) (at k m : ℕ) {n j : ℕ} → n ≡ 9 → m < 3 → j ≡ 3 * k + m → intAt 3 (take n (drop (at + 9 * k) p)) (3 * m) ≡ intAt 3 p (at + 3 * j)
+turned : (p : List ℕ) (at k m : ℕ) {n j : ℕ} → n ≡ 9 → m < 3 → j ≡ 3 * k + m
+    → intAt 3 (take n (drop (at + 9 * k) p)) (3 * m) ≡ intAt 3 p (at + 3 * j)
 turned p at k m {n} {j} e h q =
     let same : at + 9 * k + 3 * m ≡ at + 3 * j = omega arith in
     int-part p n (at + 9 * k) 3 (3 * m) (omega arith) ∙ ap (intAt 3 p) same

@@ -8,7 +8,7 @@ use native.Mathlib.Omega.{arith}
 use lib.ListN.{length, take, drop}
 use Rattle.shot_text.specs.declared.TextPlace.{TextPlace}
 use Rattle.shot_text.specs.Trim.{textOf, textStart}
-use Rattle.shot_text.proofs.Trimmed.{lies, within}
+use Rattle.shot_text.proofs.Trimmed.{lies, lies-within}
 use Rattle.shot_text.proofs.ShotText.decode.Statement.{statement}
 use Rattle.shot_text.proofs.ShotText.decode.Tie as tie
 
@@ -23,7 +23,7 @@ module _ (c : tie.After-place) where
   len-is = ap (λ (p : TextPlace). p .len) (c .place .ensures)
 
   pub fits : c .place .result .start + c .place .result .len ≤ length payload
-  fits = omega (arith, start-is, len-is, within payload)
+  fits = omega (arith, start-is, len-is, lies-within payload)
 
 add-end : tie.Need-add-end
 add-end c = omega (arith, fits (c .before))

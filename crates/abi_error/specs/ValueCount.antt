@@ -6,6 +6,6 @@ use lib.ListN.{length}
 use Rattle.error.specs.declared.WireError.{WireError}
 use Rattle.error.specs.Refusal.{numberOf, valuesOf}
 
-pub record Counts (number n : ℕ) : Type 0 where
+pub record ValueCount (number n : ℕ) : Type 0 where
   pub some : (e : WireError) → numberOf e ≡ number → n ≡ length (valuesOf e)
   pub none : ((e : WireError) → numberOf e ≡ number → ⊥) → n ≡ 0
