@@ -313,45 +313,54 @@ fn other_case(r: &mut Random) -> Case {
             set_scale(r, ops::SPEED_PROFILE, &mut data);
             case(ops::SPEED_PROFILE, (len.saturating_sub(12) / 2 + r.below(3)).saturating_sub(r.below(2)) as u64, 0, data)
         }
-        1 => {
-            let len = r.below(260);
-            let mut data = r.bytes(len);
-            if len > 3 && r.below(4) > 0 {
-                data[0] = r.one_of(&[3, 63, 123, 183, 243, 0, 4, 62]);
-                data[3] = r.below(6) as u8;
-            }
-            let op = r.one_of(&[ops::PRC_DATA, ops::PRC_POINT]);
-            case(op, r.below(6) as u64, 0, data)
-        }
-        2 => {
-            let len = r.below(320);
-            let mut data = r.bytes(len);
-            if len > 0 && r.below(4) > 0 {
-                data[0] = r.one_of(&[0, 75, 76, 152, 228, 255]);
-            }
-            let op = r.one_of(&[ops::CLUB_PRC, ops::CLUB_PRC_POINT]);
-            case(op, r.below(5) as u64, 0, data)
-        }
+        1 => prc_case(r),
+        2 => club_prc_case(r),
         3 => {
             let len = 74 + r.below(6);
             case(ops::ENCODE_REQUEST, 0, r.next() & 0xFFFF, r.bytes(len))
         }
         6 => speed_case(r),
         9 => failed_case(r),
-        4 | 5 => {
-            let mut data = Vec::new();
-            for _ in 0..r.below(4) {
-                let n = r.below(5);
-                data.extend(r.bytes(n));
-                data.extend_from_slice(r.one_of(&[&b"PROCESSED"[..], b"IDLE", b"BALL TRIGGER", b"BALL TRIGGE", b"\n\0", b" IDL", b"\x1F\x20\x21"]));
-            }
-            case(ops::SHOT_TEXT, 0, 0, data)
-        }
+        4 | 5 => text_case(r),
         _ => {
             let len = 156 + r.below(3);
             case(ops::BAY_LOG, r.next() & 0xFFFF_FFFF, 30 + r.below(5) as u64, r.bytes(len))
         }
     }
+}
+
+/// An EC, mostly with a header that has points, or a point of it.
+fn prc_case(r: &mut Random) -> Case {
+    let len = r.below(260);
+    let mut data = r.bytes(len);
+    if len > 3 && r.below(4) > 0 {
+        data[0] = r.one_of(&[3, 63, 123, 183, 243, 0, 4, 62]);
+        data[3] = r.below(6) as u8;
+    }
+    let op = r.one_of(&[ops::PRC_DATA, ops::PRC_POINT]);
+    case(op, r.below(6) as u64, 0, data)
+}
+
+/// An EE, mostly with a header that has points, or a point of it.
+fn club_prc_case(r: &mut Random) -> Case {
+    let len = r.below(320);
+    let mut data = r.bytes(len);
+    if len > 0 && r.below(4) > 0 {
+        data[0] = r.one_of(&[0, 75, 76, 152, 228, 255]);
+    }
+    let op = r.one_of(&[ops::CLUB_PRC, ops::CLUB_PRC_POINT]);
+    case(op, r.below(5) as u64, 0, data)
+}
+
+/// An E5 with some of the words, and some that are nearly one.
+fn text_case(r: &mut Random) -> Case {
+    let mut data = Vec::new();
+    for _ in 0..r.below(4) {
+        let n = r.below(5);
+        data.extend(r.bytes(n));
+        data.extend_from_slice(r.one_of(&[&b"PROCESSED"[..], b"IDLE", b"BALL TRIGGER", b"BALL TRIGGE", b"\n\0", b" IDL", b"\x1F\x20\x21"]));
+    }
+    case(ops::SHOT_TEXT, 0, 0, data)
 }
 
 /// Any case at all.

@@ -290,25 +290,8 @@ fn lent(mut buf: Vec<u8>, call: impl FnOnce(*mut u8, usize, *mut u64) -> u64) ->
 
 pub fn ask(c: &Case) -> Answer {
     let (d, n, at) = (c.data.as_ptr(), c.data.len(), c.a as usize);
-    let val = c.b as u32;
     match c.op {
-        ops::READ_INT16 => read!(mvd_read_int16, c, i16),
-        ops::READ_UINT16 => read!(mvd_read_uint16, c, u16),
-        ops::READ_INT24 => read!(mvd_read_int24, c, i32),
-        ops::READ_UINT24 => read!(mvd_read_uint24, c, u32),
-        ops::READ_INT32 => read!(mvd_read_int32, c, i32),
-        ops::READ_UINT32 => read!(mvd_read_uint32, c, u32),
-        ops::READ_FLOAT40 => read_float!(mvd_read_float40, c),
-        ops::READ_INT24_SCALED => read_float!(mvd_read_int24_scaled, c, f64::from_bits(c.b)),
-        ops::READ_INT16_SCALED => read_float!(mvd_read_int16_scaled, c, f64::from_bits(c.b)),
-        ops::WRITE_INT16 => write!(mvd_write_int16, c, val as i16),
-        ops::WRITE_UINT16 => write!(mvd_write_uint16, c, val as u16),
-        ops::WRITE_INT24 => write!(mvd_write_int24, c, val as i32),
-        ops::WRITE_UINT24 => write!(mvd_write_uint24, c, val),
-        ops::WRITE_INT32 => write!(mvd_write_int32, c, val as i32),
-        ops::WRITE_UINT32 => write!(mvd_write_uint32, c, val),
-        ops::WRITE_FLOAT40 => write!(mvd_write_float40_bits, c, f64::from_bits(c.b).to_bits()),
-        ops::WRITE_FLOAT40_BITS => write!(mvd_write_float40_bits, c, c.b),
+        ops::READ_INT16..=ops::WRITE_FLOAT40_BITS => at_a_place(c),
         ops::OPEN => open(c),
         ops::COPY_PAYLOAD => copy_payload(c),
         ops::ENCODE => encode(c),
@@ -335,6 +318,31 @@ pub fn ask(c: &Case) -> Answer {
             let buf = vec![ops::UNTOUCHED; c.b as usize];
             lent(buf, |b, bn, v| unsafe { c::mvd_bay_log(c.a as u32, d, n, b, bn, v) })
         }
+        other => panic!("no operation {other:02x}"),
+    }
+}
+
+/// A field that is read or written at a place.
+fn at_a_place(c: &Case) -> Answer {
+    let val = c.b as u32;
+    match c.op {
+        ops::READ_INT16 => read!(mvd_read_int16, c, i16),
+        ops::READ_UINT16 => read!(mvd_read_uint16, c, u16),
+        ops::READ_INT24 => read!(mvd_read_int24, c, i32),
+        ops::READ_UINT24 => read!(mvd_read_uint24, c, u32),
+        ops::READ_INT32 => read!(mvd_read_int32, c, i32),
+        ops::READ_UINT32 => read!(mvd_read_uint32, c, u32),
+        ops::READ_FLOAT40 => read_float!(mvd_read_float40, c),
+        ops::READ_INT24_SCALED => read_float!(mvd_read_int24_scaled, c, f64::from_bits(c.b)),
+        ops::READ_INT16_SCALED => read_float!(mvd_read_int16_scaled, c, f64::from_bits(c.b)),
+        ops::WRITE_INT16 => write!(mvd_write_int16, c, val as i16),
+        ops::WRITE_UINT16 => write!(mvd_write_uint16, c, val as u16),
+        ops::WRITE_INT24 => write!(mvd_write_int24, c, val as i32),
+        ops::WRITE_UINT24 => write!(mvd_write_uint24, c, val),
+        ops::WRITE_INT32 => write!(mvd_write_int32, c, val as i32),
+        ops::WRITE_UINT32 => write!(mvd_write_uint32, c, val),
+        ops::WRITE_FLOAT40 => write!(mvd_write_float40_bits, c, f64::from_bits(c.b).to_bits()),
+        ops::WRITE_FLOAT40_BITS => write!(mvd_write_float40_bits, c, c.b),
         other => panic!("no operation {other:02x}"),
     }
 }
