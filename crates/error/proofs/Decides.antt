@@ -11,7 +11,7 @@ use lib.Ieee.{Float}
 use Rattle.general.proofs.One.{one-reply}
 use Rattle.error.specs.declared.WireError.{WireError}
 use Rattle.error.specs.declared.WireError.the-variants.{FrameTooShort, MissingStart, MissingEnd, InvalidEscape, ChecksumMismatch, UnknownBusAddr}
-use Rattle.error.specs.declared.WireError.the-variants.{PayloadTooShort, NoRoom, BadState, PayloadTooLong, NoField, CutEscape}
+use Rattle.error.specs.declared.WireError.the-variants.{PayloadTooShort, NoRoom, BadState, PayloadTooLong, NoField, CutEscape, CounterFull}
 use Rattle.error.specs.Refusal.{Told, yes, no, numberOf, valuesOf}
 use Rattle.error.specs.declared.ResultUnit.{ResultUnit}
 use Rattle.error.specs.declared.ResultUnit.the-variants as unit
@@ -36,7 +36,8 @@ refusal k v =
     (cond (eqb k 4) (InvalidEscape (getD v 0 0) (getD v 1 0)) (cond (eqb k 5) (ChecksumMismatch (getD v 0 0) (getD v 1 0))
     (cond (eqb k 6) (UnknownBusAddr (getD v 0 0)) (cond (eqb k 7) (PayloadTooShort (getD v 0 0) (getD v 1 0) (getD v 2 0))
     (cond (eqb k 8) (NoRoom (getD v 0 0) (getD v 1 0)) (cond (eqb k 9) BadState
-    (cond (eqb k 10) (PayloadTooLong (getD v 0 0)) (cond (eqb k 11) (NoField (getD v 0 0)) (CutEscape (getD v 0 0))))))))))))
+    (cond (eqb k 10) (PayloadTooLong (getD v 0 0)) (cond (eqb k 11) (NoField (getD v 0 0))
+    (cond (eqb k 12) (CutEscape (getD v 0 0)) CounterFull)))))))))))
 
 pub there : (e : WireError) → refusal (numberOf e) (valuesOf e) ≡ e
 unfolding refusal
@@ -52,6 +53,7 @@ there BadState = refl
 there (PayloadTooLong len) = refl
 there (NoField number) = refl
 there (CutEscape offset) = refl
+there CounterFull = refl
 
 pub refusal-decided : {d e : WireError} → numberOf d ≡ numberOf e → valuesOf d ≡ valuesOf e → d ≡ e
 refusal-decided {d} {e} p q = sym (there d) ∙ (λ i. refusal (p i) (q i)) ∙ there e

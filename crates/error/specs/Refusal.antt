@@ -5,7 +5,7 @@ use mathlib.Core.List.{List, [], _∷_, _++_}
 use lib.ListN.{length, drop}
 use Rattle.error.specs.declared.WireError.{WireError}
 use Rattle.error.specs.declared.WireError.the-variants.{FrameTooShort, MissingStart, MissingEnd, InvalidEscape, ChecksumMismatch, UnknownBusAddr}
-use Rattle.error.specs.declared.WireError.the-variants.{PayloadTooShort, NoRoom, BadState, PayloadTooLong, NoField, CutEscape}
+use Rattle.error.specs.declared.WireError.the-variants.{PayloadTooShort, NoRoom, BadState, PayloadTooLong, NoField, CutEscape, CounterFull}
 
 -- a call tells a value, or a refusal's number with its values
 pub data Told (A : Type 0) : Type 0 where
@@ -25,6 +25,7 @@ numberOf BadState = 9
 numberOf (PayloadTooLong len) = 10
 numberOf (NoField number) = 11
 numberOf (CutEscape offset) = 12
+numberOf CounterFull = 13
 
 abbrev pub valuesOf : WireError → List ℕ
 valuesOf (FrameTooShort len) = len ∷ []
@@ -39,6 +40,7 @@ valuesOf BadState = []
 valuesOf (PayloadTooLong len) = len ∷ []
 valuesOf (NoField number) = number ∷ []
 valuesOf (CutEscape offset) = offset ∷ []
+valuesOf CounterFull = []
 
 abbrev pub refused : {A : Type 0} → WireError → Told A
 refused e = no (numberOf e) (valuesOf e)

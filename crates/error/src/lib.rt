@@ -20,6 +20,7 @@ pub enum WireError {
     PayloadTooLong { len: usize },
     NoField { number: usize },
     CutEscape { offset: usize },
+    CounterFull,
 }
 
 // What a call answers, for each type that one answers: the Rust's `Result<T>`.
@@ -66,7 +67,7 @@ impl WireError {
         WireError::PayloadTooShort { kind, need, got }
     }
 
-    // The refusal's number, 1 to 12.
+    // The refusal's number, 1 to 13.
     pub fn number(self) -> u8
         ensures { λ r. ⌜ r ≡ numberOf self ⌝ }
     {
@@ -83,6 +84,7 @@ impl WireError {
             WireError::PayloadTooLong { .. } => 10,
             WireError::NoField { .. } => 11,
             WireError::CutEscape { .. } => 12,
+            WireError::CounterFull => 13,
         }
     }
 
@@ -103,6 +105,7 @@ impl WireError {
             WireError::PayloadTooLong { .. } => 1,
             WireError::NoField { .. } => 1,
             WireError::CutEscape { .. } => 1,
+            WireError::CounterFull => 0,
         }
     }
 
@@ -133,6 +136,7 @@ impl WireError {
             WireError::PayloadTooLong { len } => [len, 0, 0],
             WireError::NoField { number } => [number, 0, 0],
             WireError::CutEscape { offset } => [offset, 0, 0],
+            WireError::CounterFull => [0, 0, 0],
         }
     }
 }

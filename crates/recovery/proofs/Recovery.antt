@@ -13,8 +13,7 @@ use Rattle.splitter.specs.Feed.{more, overlong, frame, new}
 use Rattle.stream.specs.Stream.{Said, Call, Calls, takenBy, answerTo}
 use Rattle.stream.specs.Heard.{heard}
 use Rattle.stream.proofs.Line.{hear, silence, hear-append, hear-length}
-use Rattle.stream.proofs.Calls.{stands-fresh}
-use Rattle.stream.proofs.Stream.{Plain, Follows, follows, spoken, answers-heard}
+use Rattle.stream.proofs.Stream.{Plain, Follows, follows-fresh, spoken, answers-heard}
 use Rattle.stream.proofs.Rust.{line-says}
 use Rattle.stream.proofs.Ends.{feeds-calls}
 use Rattle.frame.proofs.Round.{open-back, copy-back}
@@ -79,7 +78,7 @@ recovered {h} {k} {s} {t} noise f fs rest c =
     let H = length h in
     let after : List ℕ = wires fs ++ rest in
     let i : noise ++ (wires (f ∷ fs) ++ rest) ≡ noise ++ (f .wire ++ after) = ap (λ (x : List ℕ). noise ++ x) (append-assoc (f .wire) (wires fs) rest) in
-    let l : Follows h [] (noise ++ (wires (f ∷ fs) ++ rest)) t s k = follows [] (stands-fresh new h) c in
+    let l : Follows new h [] (noise ++ (wires (f ∷ fs) ++ rest)) t s k = follows-fresh c in
     let e : heard t ≡ hear H [] noise ++ hear H (pending noise) (f .wire ++ after) =
     l .hears ∙ ap (hear H []) i ∙ hear-append H [] noise (f .wire ++ after)
     ∙ ap (λ (x : List ℕ). hear H [] noise ++ hear H x (f .wire ++ after)) (open-after noise) in

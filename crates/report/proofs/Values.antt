@@ -46,3 +46,4 @@ at-most-3 refusal.BadState = lit≤ tt
 at-most-3 (refusal.PayloadTooLong len) = lit≤ tt
 at-most-3 (refusal.NoField number) = lit≤ tt
 at-most-3 (refusal.CutEscape offset) = lit≤ tt
+at-most-3 refusal.CounterFull = lit≤ tt

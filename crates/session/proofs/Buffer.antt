@@ -1,6 +1,6 @@
 -- Request 9 took the payload buffer away from the program. What it prints is what it printed with one at least as long as its hold
 -- buffer, as document 01 has both 2,048 bytes long: no frame that fits the hold buffer was ever refused for room.
-use Prim.Native.Nat.{ℕ, _≤_}
+use Prim.Native.Nat.{ℕ, _^_, _≤_, _<_}
 use mathlib.Core.Path.{_≡_, refl, sym, ap, _∙_}
 use mathlib.Core.List.{List, [], _∷_, _++_, map}
 use native.Mathlib.Omega.{arith}
@@ -39,6 +39,6 @@ module _ (H m : ℕ) (room : H ≤ m) where
   same-lines n (w ∷ ws) = λ i. same-line n w i ++ same-lines (numberTo n (answerTo H w)) ws i
 
 pub prints-as-before : {h : List ℕ} {cs : List (List ℕ)} {printed : List ℕ} (m : ℕ) (ds : List (List ℕ)) → length h ≤ m → joined cs ≡ joined ds
-    → Run h cs printed → printed ≡ linesBy (parsedWith m) 0 (map (answerTo (length h)) (rustFrames [] ds)) ++ endTo (length h) (rustLeft [] ds)
-prints-as-before {h} m ds l e r =
-    prints ds e r ∙ ap (λ (x : List ℕ). x ++ endTo (length h) (rustLeft [] ds)) (sym (same-lines (length h) m l 0 (rustFrames [] ds)))
+    → length (joined ds) < 2 ^ 64 → Run h cs printed → printed ≡ linesBy (parsedWith m) 0 (map (answerTo (length h)) (rustFrames [] ds)) ++ endTo (length h) (rustLeft [] ds)
+prints-as-before {h} m ds l e below r =
+    prints ds e below r ∙ ap (λ (x : List ℕ). x ++ endTo (length h) (rustLeft [] ds)) (sym (same-lines (length h) m l 0 (rustFrames [] ds)))

@@ -7,7 +7,7 @@ use lib.Dec.{leb, ltb}
 use lib.ListN.{length, take, drop}
 use Rattle.error.specs.Refusal.{Told, yes, no, onYes, filled}
 use Rattle.error.specs.Result.{toldUsize}
-use Rattle.splitter.specs.Feed.{Given, feedRule, isBad}
+use Rattle.splitter.specs.Feed.{Given, feedRule, isBad, isFull}
 use Rattle.stream.specs.Stream.{Said, saidOf}
 use Rattle.session.specs.declared.Session.{Session}
 use Rattle.session.specs.declared.Ran.{Ran}
@@ -73,12 +73,13 @@ doneBy r h out = record { reply = toldUsize (r .reply); stage = stage (r .sessio
 abbrev pub allLines : Stage → List ℕ → List ℕ → Done
 allLines t c out = done (yes (works (length c) t c .text)) (works (length c) t c .stage) out
 
--- a state that no call gives (9), then room for the lines (8); else all of the piece is taken
+-- a state that no call gives (9), then more bytes than can be counted (13), then room for the lines (8); else all of the piece is taken
 unfoldable pub pieceRule : Stage → List ℕ → List ℕ → Done
 pieceRule t c out =
     cond (isBad (t .session .splitter) (length (t .hold))) (done (no 9 []) t out)
+    (cond (isFull (t .session .splitter) (length c)) (done (no 13 []) t out)
     (cond (ltb (length out) (roomFor (length c))) (done (no 8 (roomFor (length c) ∷ length out ∷ [])) t out)
-    (allLines t c out))
+    (allLines t c out)))
 
 -- what is read back from a buffer of lines: the bytes that a reply says were put, none where it is refused or does not fit
 abbrev pub frontOf : Told ℕ → List ℕ → List ℕ

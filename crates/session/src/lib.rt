@@ -6,7 +6,7 @@ ghost use Prim.Native.Nat.{_*_, _≤_};
 ghost use lib.ListN.{length};
 ghost use Rattle.error.specs.Result.{toldUsize};
 ghost use Rattle.error.specs.Refusal.{yes};
-ghost use Rattle.splitter.specs.Feed.{new, isBad, frame};
+ghost use Rattle.splitter.specs.Feed.{new, isBad, isFull, frame};
 ghost use Rattle.report.specs.Line.{longText};
 ghost use Rattle.session.specs.Lines.{lineTo};
 ghost use Rattle.session.specs.Piece.{stage, roomFor, allLines, pieceRule, frontOf, doneBy};
@@ -44,9 +44,16 @@ impl Session {
         ensures { λ r. ⌜ doneBy r (now (hold .exit)) (now (out .exit)) ≡
             pieceRule (stage self (now (hold .entry))) (now (chunk .entry)) (now (out .entry)) ⌝ }
     {
-        if self.splitter.is_bad(hold.len()) {
+        let splitter = self.splitter;
+        if splitter.is_bad(hold.len()) {
             return Ran {
                 reply: ResultUsize::Err(WireError::BadState),
+                session: self,
+            };
+        }
+        if splitter.is_full(chunk.len()) {
+            return Ran {
+                reply: ResultUsize::Err(WireError::CounterFull),
                 session: self,
             };
         }
@@ -91,7 +98,8 @@ fn room_for(len: usize) -> usize
 
 // The lines of a piece's events, one behind the other.
 fn all_lines(start: Session, hold: &mut [u8], chunk: &[u8], out: &mut [u8]) -> Ran
-    requires { ⌜ (isBad (start .splitter) (length (now hold)) ≡ false) × (128 * length (now chunk) ≤ length (now out)) ⌝ }
+    requires { ⌜ (isBad (start .splitter) (length (now hold)) ≡ false) × (isFull (start .splitter) (length (now chunk)) ≡ false) ⌝ }
+    requires { ⌜ 128 * length (now chunk) ≤ length (now out) ⌝ }
     ensures { λ r. ⌜ doneBy r (now (hold .exit)) (now (out .exit)) ≡
         allLines (stage start (now (hold .entry))) (now (chunk .entry)) (now (out .entry)) ⌝ }
 {

@@ -1,12 +1,13 @@
--- Document 01, 'Splitter': what one call of `feed` does. s is the state before it, h the hold buffer, c the chunk.
+-- Document 01, 'Splitter', and request 6: what one call of `feed` does. s is the state before it, h the hold buffer, c the chunk.
 -- `feedRule` fixes the answer, the bytes taken, the state after the call and every byte of the hold buffer.
-use Prim.Native.Nat.{ℕ, _+_, _-_}
+use Prim.Native.Nat.{ℕ, _+_, _-_, _^_}
 use mathlib.Core.Bool.{Bool, true, false, cond, not, _&&_, _||_}
 use mathlib.Core.List.{List, [], _++_}
 use lib.ListN.{length, take, drop}
 use lib.Dec.{ltb, leb, eqb}
 use Rattle.error.specs.Refusal.{Told, yes, no, refused}
 use Rattle.search.specs.First.{firstFrom}
+use Rattle.splitter.specs.declared.Counts.{Counts}
 use Rattle.splitter.specs.declared.FrameSplitter.{FrameSplitter}
 use Rattle.splitter.specs.declared.Place.{Place}
 use Rattle.splitter.specs.declared.Fed.{Fed}
@@ -46,26 +47,24 @@ givenBy f h = given (toldEvent (f .event)) (f .taken) (f .splitter) h
 
 -- ---- states
 
--- a splitter's first state: count 0, no mark
+-- a splitter's first state: count 0, no mark, and nothing counted
 abbrev pub new : FrameSplitter
-new = record { count = 0; skipping = false }
-
--- what a call makes of the state s: n bytes held, the mark set, or fresh
-abbrev pub holding : FrameSplitter → ℕ → FrameSplitter
-holding s n = record { count = n; skipping = false }
-
-abbrev pub marked : FrameSplitter → FrameSplitter
-marked s = record { count = 0; skipping = true }
-
-abbrev pub fresh : FrameSplitter → FrameSplitter
-fresh s = holding s 0
+new = record { count = 0; skipping = false; counts = record { taken = 0; dropped = 0; framed = 0; lost = 0; held = 0 } }
 
 abbrev pub isOpen : FrameSplitter → Bool
 isOpen s = s .skipping || not (eqb (s .count) 0)
 
--- a count above H, or a mark with a count other than 0
+-- taken is the sum of the other four, and held is the count
+abbrev pub balances : Counts → ℕ → Bool
+balances k count = eqb (k .taken) (k .dropped + k .framed + k .lost + k .held) && eqb (k .held) count
+
+-- a count above H, counts that do not balance, or a mark with a count other than 0
 abbrev pub isBad : FrameSplitter → ℕ → Bool
-isBad s H = ltb H (s .count) || (s .skipping && not (eqb (s .count) 0))
+isBad s H = ltb H (s .count) || not (balances (s .counts) (s .count)) || (s .skipping && not (eqb (s .count) 0))
+
+-- taken plus n bytes would pass the largest 64-bit number
+abbrev pub isFull : FrameSplitter → ℕ → Bool
+isFull s n = ltb (2 ^ 64 - 1) (s .counts .taken + n)
 
 -- ---- places in a chunk
 
@@ -91,26 +90,54 @@ lengthWith s n = s .count + n
 abbrev pub isKept : FrameSplitter → ℕ → ℕ → Bool
 isKept s H n = not (s .skipping) && leb (lengthWith s n) H
 
--- it ends there: completed in the hold where it was open, else givenBy where it lies; or it is lost
+-- e bytes of the chunk are taken, i of them outside frames; of the frame's bytes so many are handed over now, so many lost, so many held
+abbrev pub counted : FrameSplitter → ℕ → ℕ → ℕ → ℕ → ℕ → Counts
+counted s i e framed lost held =
+    record {
+      taken = s .counts .taken + e;
+      dropped = s .counts .dropped + i;
+      framed = s .counts .framed + framed;
+      lost = s .counts .lost + lost;
+      held = held;
+    }
+
+-- the state then: after a frame's end count and mark are as fresh, and the counts run on; before it the bytes are held, or the mark is set
+abbrev pub handed : FrameSplitter → ℕ → ℕ → FrameSplitter
+handed s i e = record { count = 0; skipping = false; counts = counted s i e (lengthWith s (e - i)) 0 0 }
+
+abbrev pub passed : FrameSplitter → ℕ → ℕ → FrameSplitter
+passed s i e = record { count = 0; skipping = false; counts = counted s i e 0 (lengthWith s (e - i)) 0 }
+
+abbrev pub holding : FrameSplitter → ℕ → ℕ → FrameSplitter
+holding s i e = record { count = lengthWith s (e - i); skipping = false; counts = counted s i e 0 0 (lengthWith s (e - i)) }
+
+abbrev pub marked : FrameSplitter → ℕ → ℕ → FrameSplitter
+marked s i e = record { count = 0; skipping = true; counts = counted s i e 0 (lengthWith s (e - i)) 0 }
+
+-- it ends there: completed in the hold where it was open, else given by where it lies; or it is lost
 unfoldable pub ends : FrameSplitter → List ℕ → List ℕ → ℕ → ℕ → Given
 ends s h c i e =
     cond (isKept s (length h) (e - i))
     (cond (isOpen s)
-    (given (yes (frame (record { in_hold = true; start = 0; len = lengthWith s (e - i) }))) e (fresh s) (laid h (s .count) (part c i e)))
-    (given (yes (frame (record { in_hold = false; start = i; len = e - i }))) e (fresh s) h))
-    (given (yes overlong) e (fresh s) h)
+    (given (yes (frame (record { in_hold = true; start = 0; len = lengthWith s (e - i) }))) e (handed s i e) (laid h (s .count) (part c i e)))
+    (given (yes (frame (record { in_hold = false; start = i; len = e - i }))) e (handed s i e) h))
+    (given (yes overlong) e (passed s i e) h)
 
 -- all is taken, and it is unclosed: its bytes are held, or the mark is set
 unfoldable pub goesOn : FrameSplitter → List ℕ → List ℕ → ℕ → ℕ → Given
 goesOn s h c i e =
     cond (isKept s (length h) (e - i))
-    (given (yes more) e (holding s (lengthWith s (e - i))) (laid h (s .count) (part c i e)))
-    (given (yes more) e (marked s) h)
+    (given (yes more) e (holding s i e) (laid h (s .count) (part c i e)))
+    (given (yes more) e (marked s i e) h)
 
 -- from the frame's first byte in the chunk to its first F1, or to the chunk's end
 unfoldable pub runs : FrameSplitter → List ℕ → List ℕ → ℕ → Given
 runs s h c i =
     cond (ltb (firstFrom 0xF1 i c) (length c)) (ends s h c i (firstFrom 0xF1 i c + 1)) (goesOn s h c i (length c))
 
+-- what is refused takes nothing and alters nothing
+abbrev pub refuses : ℕ → FrameSplitter → List ℕ → Given
+refuses k s h = given (no k []) 0 s h
+
 unfoldable pub feedRule : FrameSplitter → List ℕ → List ℕ → Given
-feedRule s h c = cond (isBad s (length h)) (given (no 9 []) 0 s h) (runs s h c (startIn s c))
+feedRule s h c = cond (isBad s (length h)) (refuses 9 s h) (cond (isFull s (length c)) (refuses 13 s h) (runs s h c (startIn s c)))

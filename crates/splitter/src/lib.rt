@@ -1,11 +1,17 @@
-// The splitter: cuts a byte stream that comes in chunks into frames F0 .. F1, one event a call.
+// The splitter: cuts a byte stream that comes in chunks into frames F0 .. F1, one event a call, and counts what the line loses.
 // However the stream is cut, the frames are the Rust's; those longer than the hold buffer are answered Overlong (crate stream).
+mod counting;
+
 ghost use mathlib.Core.Path.{_≡_};
-ghost use mathlib.Core.Bool.{not};
-ghost use Prim.Native.Nat.{_+_, _≤_};
+ghost use mathlib.Core.Bool.{false, not};
+ghost use Prim.Native.Nat.{_+_, _-_, _≤_};
 ghost use lib.ListN.{length};
-ghost use Rattle.splitter.specs.declared.Event.the-variants.{More};
-ghost use Rattle.splitter.specs.Feed.{new, isBad, isOpen, isKept, startIn, laid, ends, goesOn, feedRule, givenBy};
+ghost use Rattle.splitter.specs.declared.Event.the-variants.{More, Err};
+ghost use Rattle.splitter.specs.Feed.{new, isBad, isFull, isOpen, isKept, startIn, laid, ends, goesOn, feedRule, givenBy};
+ghost use Rattle.splitter.specs.Private.{Room};
+use crate::counting::balances;
+use crate::counting::counted;
+use crate::counting::nothing;
 use error::WireError;
 use marks::END;
 use marks::START;
@@ -13,10 +19,21 @@ use search::find;
 use search::find_far;
 
 // The state between two calls: how many bytes of an open frame the hold buffer has, or that
-// the open frame is longer than that buffer and is skipped up to its end.
+// the open frame is longer than that buffer and is skipped up to its end; and the counts since the first call.
 pub struct FrameSplitter {
     pub count: usize,
     pub skipping: bool,
+    pub counts: Counts,
+}
+
+// Bytes since the first call: all that were taken; dropped outside frames; handed over in frames; lost in frames longer
+// than the hold buffer, one that is being skipped too; and held.
+pub struct Counts {
+    pub taken: u64,
+    pub dropped: u64,
+    pub framed: u64,
+    pub lost: u64,
+    pub held: u64,
 }
 
 // Where a frame lies: len bytes from start on, in the hold buffer or in the chunk.
@@ -47,6 +64,7 @@ impl FrameSplitter {
         FrameSplitter {
             count: 0,
             skipping: false,
+            counts: nothing(),
         }
     }
 
@@ -55,15 +73,15 @@ impl FrameSplitter {
     {
         let room = hold.len();
         if self.is_bad(room) {
-            return Fed {
-                event: Event::Err(WireError::BadState),
-                taken: 0,
-                splitter: self,
-            };
+            return refused(WireError::BadState, self);
+        }
+        let n = chunk.len();
+        if self.is_full(n) {
+            return refused(WireError::CounterFull, self);
         }
         let from = start(self, chunk);
         let end = find_far(chunk, from, END);
-        if end < chunk.len() {
+        if end < n {
             return closes(self, hold, chunk, from, end + 1);
         }
         stays(self, hold, chunk, from)
@@ -77,10 +95,31 @@ impl FrameSplitter {
         if room < count {
             return true;
         }
+        if !balances(self.counts, count) {
+            return true;
+        }
         if self.skipping {
             return count != 0;
         }
         false
+    }
+
+    // Whether n more bytes would pass what can be counted.
+    pub fn is_full(self, n: usize) -> bool
+        ensures { λ r. ⌜ r ≡ isFull self n ⌝ }
+    {
+        let counts = self.counts;
+        u64::MAX - counts.taken < n as u64
+    }
+}
+
+fn refused(e: WireError, s: FrameSplitter) -> Fed
+    ensures { λ r. ⌜ r ≡ record { event = Err e; taken = 0; splitter = s } ⌝ }
+{
+    Fed {
+        event: Event::Err(e),
+        taken: 0,
+        splitter: s,
     }
 }
 
@@ -117,71 +156,78 @@ fn lost(s: FrameSplitter, room: usize, added: usize) -> bool
 
 // The frame ends in the chunk, just before index to.
 fn closes(s: FrameSplitter, hold: &mut [u8], chunk: &[u8], from: usize, to: usize) -> Fed
-    requires { ⌜ s .count ≤ length (now hold) ⌝ }
+    requires { ⌜ (s .count ≤ length (now hold)) × Room s to ⌝ }
     requires { ⌜ (from ≤ to) × (to ≤ length (now chunk)) ⌝ }
     ensures { λ r. ⌜ givenBy r (now (hold .exit)) ≡ ends s (now (hold .entry)) (now (chunk .entry)) from to ⌝ }
 {
     let count = s.count;
     let len = to - from;
+    let all = count + len;
     if lost(s, hold.len(), len) {
-        return ended(Event::Overlong, to);
+        return ended(Event::Overlong, to, counted(s, from, to, 0, all as u64, 0));
     }
+    let counts = counted(s, from, to, all as u64, 0, 0);
     if count == 0 {
-        return ended(
-            Event::Frame(Place {
-                in_hold: false,
-                start: from,
-                len,
-            }),
-            to,
-        );
+        let place = Place {
+            in_hold: false,
+            start: from,
+            len,
+        };
+        return ended(Event::Frame(place), to, counts);
     }
     lay(hold, count, &chunk[from..to]);
-    ended(
-        Event::Frame(Place {
-            in_hold: true,
-            start: 0,
-            len: count + len,
-        }),
-        to,
-    )
+    let place = Place {
+        in_hold: true,
+        start: 0,
+        len: all,
+    };
+    ended(Event::Frame(place), to, counts)
 }
 
-// After a frame's end the splitter is fresh.
-fn ended(event: Event, taken: usize) -> Fed
-    ensures { λ r. ⌜ r ≡ record { event = event; taken = taken; splitter = new } ⌝ }
+// After a frame's end the splitter is fresh, but for its counts.
+fn ended(event: Event, taken: usize, counts: Counts) -> Fed
+    ensures { λ r. ⌜ r ≡ record { event = event; taken = taken; splitter = record { count = 0; skipping = false; counts = counts } } ⌝ }
 {
     Fed {
         event,
         taken,
-        splitter: FrameSplitter::new(),
+        splitter: FrameSplitter {
+            count: 0,
+            skipping: false,
+            counts,
+        },
     }
 }
 
 // The frame, if any, does not end in the chunk.
 fn stays(s: FrameSplitter, hold: &mut [u8], chunk: &[u8], from: usize) -> Fed
-    requires { ⌜ s .count ≤ length (now hold) ⌝ }
+    requires { ⌜ (s .count ≤ length (now hold)) × Room s (length (now chunk)) ⌝ }
     requires { ⌜ from ≤ length (now chunk) ⌝ }
     ensures { λ r. ⌜ givenBy r (now (hold .exit)) ≡ goesOn s (now (hold .entry)) (now (chunk .entry)) from (length (now (chunk .entry))) ⌝ }
 {
     let count = s.count;
     let n = chunk.len();
     let added = n - from;
+    let all = count + added;
     if lost(s, hold.len(), added) {
-        return went_on(n, 0, true);
+        return went_on(n, 0, true, counted(s, from, n, 0, all as u64, 0));
     }
     lay(hold, count, &chunk[from..n]);
-    went_on(n, count + added, false)
+    went_on(n, all, false, counted(s, from, n, 0, 0, all as u64))
 }
 
 // Before a frame's end the answer is More.
-fn went_on(taken: usize, count: usize, skipping: bool) -> Fed
-    ensures { λ r. ⌜ r ≡ record { event = More; taken = taken; splitter = record { count = count; skipping = skipping } } ⌝ }
+fn went_on(taken: usize, count: usize, skipping: bool, counts: Counts) -> Fed
+    ensures { λ r. ⌜ r ≡ record { event = More; taken = taken; splitter = record { count = count; skipping = skipping; counts = counts } } ⌝ }
 {
     Fed {
         event: Event::More,
         taken,
-        splitter: FrameSplitter { count, skipping },
+        splitter: FrameSplitter {
+            count,
+            skipping,
+            counts,
+        },
     }
 }
 

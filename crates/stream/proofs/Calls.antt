@@ -1,39 +1,45 @@
--- One call beside the line: over the bytes that it takes, the two say the same, and the state stands for the frame that is open.
--- So nothing that a call says depends on where the chunk was cut.
+-- One call beside the line: over the bytes that it takes, the two say and count the same, and the state stands for the frame that is open.
+-- So nothing that a call says or counts depends on where the chunk was cut.
 use mathlib.Core.Path.{_≡_, refl, sym, ap, _∙_}
 use mathlib.Core.Bool.{true, false}
 use mathlib.Core.List.{List, [], _∷_, _++_, append-assoc}
 use Prim.Native.Nat.{ℕ, suc, _+_, _-_, _≤_, _<_, zero-le}
 use native.Mathlib.Omega.{arith}
-use native.Mathlib.Nat.{not-suc-le-zero, zero-add}
+use native.Mathlib.Nat.{not-suc-le-zero, zero-add, add-zero}
 use lib.Dec.{eqb, leb}
 use lib.ListN.{length, take, drop, length-append, length-take, length-drop, take-append-drop, drop-of-length-le, replicate-append-replicate}
-use lib.Seq.{take-add, take-all, take-at, take-length}
-use borrow.Author.Tests.{ne-eqb, eqb-true, le-leb, lt-leb, leb-true, leb-false, le-ltb}
+use lib.Seq.{take-add, take-all, take-at, take-length, length-take-le}
+use borrow.Author.Tests.{ne-eqb, eqb-true, le-leb, lt-leb, leb-true, leb-false}
 use Rattle.general.proofs.Cases.{by-test, by-lt}
 use Rattle.splitter.specs.declared.FrameSplitter.{FrameSplitter}
 use Rattle.search.specs.First.{indexOf}
 use Rattle.search.proofs.First.{found, index-le}
-use Rattle.splitter.specs.Feed.{Given, fresh, isBad, startIn, part, laid, ends, goesOn, feedRule, lengthWith, more}
+use Rattle.splitter.specs.Feed.{Given, new, isBad, isFull, startIn, part, laid, ends, goesOn, feedRule, lengthWith, more}
+use Rattle.splitter.specs.Feed.{handed, passed, holding, marked}
 use Rattle.error.specs.Refusal.{yes}
 use Rattle.stream.specs.Stream.{Said, saidOf, answerTo}
 use Rattle.stream.specs.Heard.{atLast}
-use Rattle.splitter.proofs.Laws.{feed-ends, feed-goes-on}
-use Rattle.stream.proofs.Line.{opened, hear, silence, hear-append, opened-append, at-last-add, silent, dropped}
-use Rattle.stream.proofs.Line.{goes-on, closes, opens-goes-on, opens-closes}
+use Rattle.stream.specs.Noise.{outside}
+use Rattle.splitter.proofs.Laws.{Good, is-good, handed-good, passed-good, holding-good, marked-good, feed-ends, feed-goes-on}
+use Rattle.stream.proofs.Line.{opened, hear, framesIn, begun, silence, hear-append, opened-append, frames-append, outside-append}
+use Rattle.stream.proofs.Line.{at-last-add, silent, dropped, goes-on, closes, opens-goes-on, opens-closes}
+use Rattle.stream.proofs.Tally.{Moves, Counted, within-none, beyond-none}
 
 -- the state s and the hold buffer h stand for the open bytes w: they are at the hold's front, or there are more than it has room for
 pub data Stands (s : FrameSplitter) (h w : List ℕ) : Type 0 where
-  fits : length w ≤ length h → s .count ≡ length w → s .skipping ≡ false → take (length w) h ≡ w → Stands s h w
-  long : length h < length w → s .count ≡ 0 → s .skipping ≡ true → Stands s h w
+  fits : length w ≤ length h → s .count ≡ length w → s .skipping ≡ false → take (length w) h ≡ w → Good s (length h) → Stands s h w
+  long : length h < length w → s .count ≡ 0 → s .skipping ≡ true → Good s (length h) → Stands s h w
 
 -- between frames
-pub stands-fresh : (s : FrameSplitter) (h : List ℕ) → Stands (fresh s) h []
-stands-fresh s h = fits zero-le refl refl refl
+stands-between : (s : FrameSplitter) (h : List ℕ) → s .count ≡ 0 → s .skipping ≡ false → Good s (length h) → Stands s h []
+stands-between s h n m g = fits zero-le n m refl g
+
+pub stands-fresh : (h : List ℕ) → Stands new h []
+stands-fresh h = stands-between new h refl refl (record { fits = zero-le; empty = λ m. refl; sum = refl; held = refl })
 
 pub stands-good : {s : FrameSplitter} {h w : List ℕ} → Stands s h w → isBad s (length h) ≡ false
-stands-good (fits l n m k) = rw (n, m, le-ltb _ _ l)
-stands-good {s} {h} (long l n m) = rw (n, m, le-ltb (length h) 0 zero-le)
+stands-good {s} {h} (fits l n m k g) = is-good s (length h) g
+stands-good {s} {h} (long l n m g) = is-good s (length h) g
 
 -- ---- the line over a chunk, from where the frame's bytes start
 
@@ -46,19 +52,23 @@ from-le [] c = index-le 0xF0 c
 from-le (x ∷ w) c = zero-le
 
 pub start-is : {s : FrameSplitter} {h : List ℕ} (w c : List ℕ) → Stands s h w → startIn s c ≡ from w c
-start-is [] c (fits l n m k) = rw (n, m, zero-add (indexOf 0xF0 c))
-start-is (x ∷ w) c (fits l n m k) = rw (n, m, ne-eqb (suc (length w)) 0 (λ e. omega arith))
-start-is [] c (long l n m) = absurd (not-suc-le-zero l)
-start-is (x ∷ w) c (long l n m) = rw m
+start-is [] c (fits l n m k g) = rw (n, m, zero-add (indexOf 0xF0 c))
+start-is (x ∷ w) c (fits l n m k g) = rw (n, m, ne-eqb (suc (length w)) 0 (λ e. omega arith))
+start-is [] c (long l n m g) = absurd (not-suc-le-zero l)
+start-is (x ∷ w) c (long l n m g) = rw m
 
 module _ (H : ℕ) where
   pub record Closed (w c : List ℕ) (n : ℕ) (p : List ℕ) : Type 0 where
     pub heard : hear H w (take n c) ≡ atLast n (answerTo H (w ++ p))
     pub shut : opened w (take n c) ≡ []
+    pub frames : framesIn w (take n c) ≡ (w ++ p) ∷ []
+    pub out : outside (begun w) (take n c) ≡ from w c
 
   pub record Unclosed (w c p : List ℕ) : Type 0 where
     pub heard : hear H w c ≡ silence (length c)
     pub still : opened w c ≡ w ++ p
+    pub frames : framesIn w c ≡ []
+    pub out : outside (begun w) c ≡ from w c
 
   pub closes-at : (w c : List ℕ) → let i = from w c in let x = indexOf 0xF1 (drop i c) in i + x < length c → Closed w c (i + suc x) (take (suc x) (drop i c))
   closes-at [] c l =
@@ -72,10 +82,13 @@ module _ (H : ℕ) where
       rw f (record {
         heard = rw (take-add i (suc x) c, f, hear-append, d .0, d .1, q .0, at-last-add i x);
         shut = rw (take-add i (suc x) c, f, opened-append, d .1, q .1);
+        frames = rw (take-add i (suc x) c, f, frames-append, d .2, d .1, q .2);
+        out = rw (take-add i (suc x) c, f, outside-append [] (take i c) (take (suc x) (0xF0 ∷ r)), d .3, d .1, q .3, add-zero i);
       })
   closes-at (y ∷ w) c l =
       let m : indexOf 0xF1 c < length c = omega arith in
-      rw (zero-add (suc (indexOf 0xF1 c))) (record { heard = closes H y w c m .0; shut = closes H y w c m .1 })
+      let q = closes H y w c m in
+      rw (zero-add (suc (indexOf 0xF1 c))) (record { heard = q .0; shut = q .1; frames = q .2; out = q .3 })
 
   pub goes-at : (w c : List ℕ) → let i = from w c in length c ≤ i + indexOf 0xF1 (drop i c) → Unclosed w c (drop i c)
   goes-at [] c l =
@@ -91,108 +104,221 @@ module _ (H : ℕ) where
       rw f (record {
         heard = ap (hear H []) e ∙ hear-append H [] (take i c) (0xF0 ∷ r) ∙ rw (d .0, d .1, q .0, n) (replicate-append-replicate i (suc (length r)) (yes more));
         still = ap (opened []) e ∙ opened-append [] (take i c) (0xF0 ∷ r) ∙ rw (d .1, q .1);
+        frames = ap (framesIn []) e ∙ frames-append [] (take i c) (0xF0 ∷ r) ∙ rw (d .2, d .1, q .2);
+        out = ap (outside false) e ∙ outside-append [] (take i c) (0xF0 ∷ r) ∙ rw (d .3, d .1, q .3, add-zero i);
       }))
       (λ k.
       let n : i ≡ length c = omega (arith, index-le 0xF0 c) in
       let e : take i c ≡ c = take-all i c k in
-      rw (drop-of-length-le c k) (record { heard = rw (e, n) at (d .0); still = rw e at (d .1) }))
+      rw (drop-of-length-le c k) (record {
+        heard = rw (e, n) at (d .0);
+        still = rw e at (d .1);
+        frames = rw e at (d .2);
+        out = rw e at (d .3);
+      }))
   goes-at (y ∷ w) c l =
       let m : length c ≤ indexOf 0xF1 c = omega arith in
-      record { heard = goes-on H y w c m .0; still = goes-on H y w c m .1 }
+      let q = goes-on H y w c m in
+      record { heard = q .0; still = q .1; frames = q .2; out = q .3 }
 
 -- ---- the rule, beside the bytes that are open
 
--- what a call does: says a, takes n bytes, and leaves w open
-record Does (h c : List ℕ) (g : Given) (a : Said) (n : ℕ) (w : List ℕ) : Type 0 where
+-- what a call does, where w was open: says a, takes n bytes, i of them outside, ends the frames fs and leaves w′ open
+record Does (s : FrameSplitter) (h c w : List ℕ) (i : ℕ) (g : Given) (a : Said) (n : ℕ) (fs : List (List ℕ)) (w′ : List ℕ) : Type 0 where
   says : saidOf c (g .hold) (g .answer) ≡ a
   takes : g .taken ≡ n
-  stands : Stands (g .state) (g .hold) w
+  stands : Stands (g .state) (g .hold) w′
   size : length (g .hold) ≡ length h
+  counts : Moves (length h) (s .counts) w n i fs w′ (g .state .counts)
 
 module _ (s : FrameSplitter) (h c w : List ℕ) (i e : ℕ) (lo : i ≤ e) (hi : e ≤ length c) where
+  abbrev H : ℕ
+  H = length h
+
+  -- the frame's bytes up to here
+  abbrev all : List ℕ
+  all = w ++ part c i e
+
   part-long : length (part c i e) ≡ e - i
   part-long = simp (length-take, length-drop) (omega arith)
 
-  open-long : s .count ≡ length w → length (w ++ part c i e) ≡ lengthWith s (e - i)
+  open-long : s .count ≡ length w → length all ≡ lengthWith s (e - i)
   open-long n = length-append w (part c i e) ∙ rw (n, part-long)
 
-  module _ (n : s .count ≡ length w) (k : take (length w) h ≡ w) (t : lengthWith s (e - i) ≤ length h) where
-    laid-is : laid h (s .count) (part c i e) ≡ (w ++ part c i e) ++ drop (lengthWith s (e - i)) h
+  -- what was skipped is not counted twice
+  skip-long : s .count ≡ 0 → length all ≡ length w + lengthWith s (e - i)
+  skip-long n = length-append w (part c i e) ∙ rw (n, part-long, zero-add (e - i))
+
+  module _ (n : s .count ≡ length w) (k : take (length w) h ≡ w) (t : lengthWith s (e - i) ≤ H) where
+    laid-is : laid h (s .count) (part c i e) ≡ all ++ drop (lengthWith s (e - i)) h
     laid-is = rw (part-long, n, k, append-assoc)
 
-    laid-front : take (lengthWith s (e - i)) (laid h (s .count) (part c i e)) ≡ w ++ part c i e
-    laid-front = rw laid-is (take-at (w ++ part c i e) (drop (lengthWith s (e - i)) h) (lengthWith s (e - i)) (open-long n))
+    laid-front : take (lengthWith s (e - i)) (laid h (s .count) (part c i e)) ≡ all
+    laid-front = rw laid-is (take-at all (drop (lengthWith s (e - i)) h) (lengthWith s (e - i)) (open-long n))
 
-    laid-long : length (laid h (s .count) (part c i e)) ≡ length h
-    laid-long = rw (laid-is, length-append (w ++ part c i e) (drop (lengthWith s (e - i)) h), open-long n, length-drop) (omega arith)
+    laid-long : length (laid h (s .count) (part c i e)) ≡ H
+    laid-long = rw (laid-is, length-append all (drop (lengthWith s (e - i)) h), open-long n, length-drop) (omega arith)
 
-  ended : Stands s h w → Does h c (ends s h c i e) (answerTo (length h) (w ++ part c i e)) e []
+  -- ---- its counts, by whether the frame's bytes before it, and those up to here, are no more than H
+
+  module _ (l : length w ≤ H) (n : s .count ≡ length w) where
+    module _ (t : lengthWith s (e - i) ≤ H) where
+      fits-all : leb (length all) H ≡ true
+      fits-all = le-leb (length all) H (rw (open-long n) t)
+
+      hands : Moves H (s .counts) w e i (all ∷ []) [] (handed s i e .counts)
+      hands =
+          record {
+            taken = refl;
+            dropped = refl;
+            framed = rw (fits-all, open-long n) (omega arith);
+            lost = rw (fits-all, le-leb _ _ l, beyond-none H) (omega arith);
+            held = sym (within-none H);
+          }
+
+      holds : Moves H (s .counts) w e i [] all (holding s i e .counts)
+      holds =
+          record {
+            taken = refl;
+            dropped = refl;
+            framed = refl;
+            lost = rw (fits-all, le-leb _ _ l) (omega arith);
+            held = rw (fits-all, open-long n);
+          }
+
+    module _ (t : H < lengthWith s (e - i)) where
+      long-all : leb (length all) H ≡ false
+      long-all = lt-leb (length all) H (rw (open-long n) t)
+
+      passes : Moves H (s .counts) w e i (all ∷ []) [] (passed s i e .counts)
+      passes =
+          record {
+            taken = refl;
+            dropped = refl;
+            framed = rw long-all (omega arith);
+            lost = rw (long-all, le-leb _ _ l, beyond-none H, open-long n) (omega arith);
+            held = sym (within-none H);
+          }
+
+      marks : Moves H (s .counts) w e i [] all (marked s i e .counts)
+      marks =
+          record {
+            taken = refl;
+            dropped = refl;
+            framed = refl;
+            lost = rw (long-all, le-leb _ _ l, open-long n) (omega arith);
+            held = rw long-all;
+          }
+
+  module _ (l : H < length w) (n : s .count ≡ 0) where
+    still-long : H < length all
+    still-long = simp length-append (omega arith)
+
+    skips-past : Moves H (s .counts) w e i (all ∷ []) [] (passed s i e .counts)
+    skips-past =
+        record {
+          taken = refl;
+          dropped = refl;
+          framed = rw (lt-leb _ _ still-long) (omega arith);
+          lost = rw (lt-leb _ _ still-long, lt-leb _ _ l, beyond-none H, skip-long n) (omega arith);
+          held = sym (within-none H);
+        }
+
+    skips-on : Moves H (s .counts) w e i [] all (marked s i e .counts)
+    skips-on =
+        record {
+          taken = refl;
+          dropped = refl;
+          framed = refl;
+          lost = rw (lt-leb _ _ still-long, lt-leb _ _ l, skip-long n) (omega arith);
+          held = rw (lt-leb _ _ still-long);
+        }
+
+  ended : Stands s h w → Does s h c w i (ends s h c i e) (answerTo H all) e (all ∷ []) []
   unfolding ends
-  ended (fits l n m k) =
-      by-test (leb (lengthWith s (e - i)) (length h))
+  ended (fits l n m k g) =
+      by-test (leb (lengthWith s (e - i)) H)
       (λ b.
-      let t : lengthWith s (e - i) ≤ length h = leb-true _ _ b in
+      let t : lengthWith s (e - i) ≤ H = leb-true _ _ b in
+      let z₀ : (k : List ℕ) → length k ≡ H → Stands (handed s i e) k [] = λ k q. stands-between (handed s i e) k refl refl (rw q (handed-good g lo)) in
       by-test (eqb (s .count) 0)
       (λ z.
       let o : s .count ≡ 0 = eqb-true (s .count) 0 z in
       let v : w ≡ [] = sym k ∙ ap (λ (x : ℕ). take x h) (sym n ∙ o) in
       let u : i + (e - i) ≤ length c = omega arith in
-      rw (open-long n, m, b, z) (record { says = rw (le-leb _ _ u, v); takes = refl; stands = stands-fresh s h; size = refl }))
+      rw (open-long n, m, b, z) (record { says = rw (le-leb _ _ u, v); takes = refl; stands = z₀ h refl; size = refl; counts = hands l n t }))
       (λ z.
       let u : 0 + lengthWith s (e - i) ≤ length (laid h (s .count) (part c i e)) = rw (laid-long n k t) (omega arith) in
       rw (open-long n, m, b, z) (record {
         says = rw (le-leb _ _ u, laid-front n k t);
         takes = refl;
-        stands = stands-fresh s (laid h (s .count) (part c i e));
+        stands = z₀ (laid h (s .count) (part c i e)) (laid-long n k t);
         size = laid-long n k t;
+        counts = hands l n t;
       })))
-      (λ b. rw (open-long n, m, b) (record { says = refl; takes = refl; stands = stands-fresh s h; size = refl }))
-  ended (long l n m) =
-      let q : length h < length (w ++ part c i e) = simp length-append (omega arith) in
-      rw (m, lt-leb _ _ q) (record { says = refl; takes = refl; stands = stands-fresh s h; size = refl })
-
-  went-on : Stands s h w → Does h c (goesOn s h c i e) (yes more) e (w ++ part c i e)
-  unfolding goesOn
-  went-on (fits l n m k) =
-      by-test (leb (lengthWith s (e - i)) (length h))
       (λ b.
-      let t : lengthWith s (e - i) ≤ length h = leb-true _ _ b in
+      rw (open-long n, m, b) (record {
+        says = refl;
+        takes = refl;
+        stands = stands-between (passed s i e) h refl refl (passed-good g lo);
+        size = refl;
+        counts = passes l n (leb-false _ _ b);
+      }))
+  ended (long l n m g) =
+      rw (m, lt-leb _ _ (still-long l n)) (record {
+        says = refl;
+        takes = refl;
+        stands = stands-between (passed s i e) h refl refl (passed-good g lo);
+        size = refl;
+        counts = skips-past l n;
+      })
+
+  went-on : Stands s h w → Does s h c w i (goesOn s h c i e) (yes more) e [] all
+  unfolding goesOn
+  went-on (fits l n m k g) =
+      by-test (leb (lengthWith s (e - i)) H)
+      (λ b.
+      let t : lengthWith s (e - i) ≤ H = leb-true _ _ b in
+      let held : Good (holding s i e) (length (laid h (s .count) (part c i e))) = rw (laid-long n k t) (holding-good g lo t) in
       rw (m, b) (record {
         says = refl;
         takes = refl;
-        stands = fits (rw (open-long n, laid-long n k t) t) (sym (open-long n)) refl (rw (open-long n) (laid-front n k t));
+        stands = fits (rw (open-long n, laid-long n k t) t) (sym (open-long n)) refl (rw (open-long n) (laid-front n k t)) held;
         size = laid-long n k t;
+        counts = holds l n t;
       }))
       (λ b.
-      let q : length h < length (w ++ part c i e) = rw (open-long n) (leb-false _ _ b) in
-      rw (m, b) (record { says = refl; takes = refl; stands = long q refl refl; size = refl }))
-  went-on (long l n m) =
-      let q : length h < length (w ++ part c i e) = simp length-append (omega arith) in
-      rw m (record { says = refl; takes = refl; stands = long q refl refl; size = refl })
+      let t : H < lengthWith s (e - i) = leb-false _ _ b in
+      rw (m, b) (record { says = refl; takes = refl; stands = long (rw (open-long n) t) refl refl (marked-good g lo); size = refl; counts = marks l n t }))
+  went-on (long l n m g) =
+      rw m (record { says = refl; takes = refl; stands = long (still-long l n) refl refl (marked-good g lo); size = refl; counts = skips-on l n })
 
 -- ---- one call
 
--- over the bytes that a call takes, it and the line say the same, and its state stands for what the line leaves open
-pub record Agrees (h c w : List ℕ) (g : Given) : Type 0 where
+-- over the bytes that a call takes, it and the line say and count the same, and its state stands for what the line leaves open
+pub record Agrees (s : FrameSplitter) (h c w : List ℕ) (g : Given) : Type 0 where
   pub within : g .taken ≤ length c
   pub heard : atLast (g .taken) (saidOf c (g .hold) (g .answer)) ≡ hear (length h) w (take (g .taken) c)
   pub stands : Stands (g .state) (g .hold) (opened w (take (g .taken) c))
   pub size : length (g .hold) ≡ length h
   pub moves : 0 < length c → 0 < g .taken
+  pub counts : Counted (length h) (s .counts) w (take (g .taken) c) (g .state .counts)
 
-agree : (h c w : List ℕ) (g : Given) (a : Said) (n : ℕ) (w′ : List ℕ) → Does h c g a n w′ → n ≤ length c → hear (length h) w (take n c) ≡ atLast n a
-    → opened w (take n c) ≡ w′ → (0 < length c → 0 < n) → Agrees h c w g
-agree h c w g a n w′ d l p q m =
+agree : (s : FrameSplitter) (h c w : List ℕ) (i : ℕ) (g : Given) (a : Said) (n : ℕ) (fs : List (List ℕ)) (w′ : List ℕ) → Does s h c w i g a n fs w′
+    → n ≤ length c → hear (length h) w (take n c) ≡ atLast n a
+    → opened w (take n c) ≡ w′ → framesIn w (take n c) ≡ fs → outside (begun w) (take n c) ≡ i → (0 < length c → 0 < n) → Agrees s h c w g
+agree s h c w i g a n fs w′ d l p q f o m =
     record {
       within = rw (d .takes) l;
       heard = rw (d .takes, d .says, p);
       stands = rw (d .takes, q) (d .stands);
       size = d .size;
       moves = rw (d .takes) m;
+      counts = rw (d .takes, q, f, o, length-take-le n c l) (d .counts);
     }
 
-pub one-call : {s : FrameSplitter} {h : List ℕ} (w c : List ℕ) → Stands s h w → Agrees h c w (feedRule s h c)
-one-call {s} {h} w c k =
+pub one-call : {s : FrameSplitter} {h : List ℕ} (w c : List ℕ) → Stands s h w → isFull s (length c) ≡ false → Agrees s h c w (feedRule s h c)
+one-call {s} {h} w c k free =
     let H = length h in
     let good = stands-good k in
     let i = from w c in
@@ -202,17 +328,19 @@ one-call {s} {h} w c k =
     (λ l.
     let e : i + x + 1 ≡ i + suc x = omega arith in
     let n : i + suc x - i ≡ suc x = omega arith in
-    let y : Closed H w c (i + suc x) (take (suc x) (drop i c)) = closes-at H w c l in
-    let d : Does h c (ends s h c i (i + suc x)) (answerTo H (w ++ take (suc x) (drop i c))) (i + suc x) [] =
+    let p : List ℕ = take (suc x) (drop i c) in
+    let y : Closed H w c (i + suc x) p = closes-at H w c l in
+    let d : Does s h c w i (ends s h c i (i + suc x)) (answerTo H (w ++ p)) (i + suc x) ((w ++ p) ∷ []) [] =
     rw n at (ended s h c w i (i + suc x) (omega arith) (omega arith) k) in
-    rw (← feed-ends s h c i (i + x) good start refl l, e)
-    (agree h c w (ends s h c i (i + suc x)) (answerTo H (w ++ take (suc x) (drop i c))) (i + suc x) [] d (omega arith) (y .heard) (y .shut) (λ z. omega arith)))
+    rw (← feed-ends s h c good free i (i + x) start refl l, e)
+    (agree s h c w i (ends s h c i (i + suc x)) (answerTo H (w ++ p)) (i + suc x) ((w ++ p) ∷ []) [] d (omega arith)
+    (y .heard) (y .shut) (y .frames) (y .out) (λ z. omega arith)))
     (λ l.
     let y : Unclosed H w c (drop i c) = goes-at H w c l in
     let lo : i ≤ length c = from-le w c in
     let p : part c i (length c) ≡ drop i c = take-all (length c - i) (drop i c) (simp length-drop (omega arith)) in
     let all : take (length c) c ≡ c = take-length c in
-    let d : Does h c (goesOn s h c i (length c)) (yes more) (length c) (w ++ drop i c) = rw p at (went-on s h c w i (length c) lo (omega arith) k) in
-    rw (← feed-goes-on s h c i (i + x) good start refl l)
-    (agree h c w (goesOn s h c i (length c)) (yes more) (length c) (w ++ drop i c) d (omega arith)
-    (rw all (y .heard ∙ sym (silent (length c)))) (rw all (y .still)) (λ z. z)))
+    let d : Does s h c w i (goesOn s h c i (length c)) (yes more) (length c) [] (w ++ drop i c) = rw p at (went-on s h c w i (length c) lo (omega arith) k) in
+    rw (← feed-goes-on s h c good free i (i + x) start refl l)
+    (agree s h c w i (goesOn s h c i (length c)) (yes more) (length c) [] (w ++ drop i c) d (omega arith)
+    (rw all (y .heard ∙ sym (silent (length c)))) (rw all (y .still)) (rw all (y .frames)) (rw all (y .out)) (λ z. z)))

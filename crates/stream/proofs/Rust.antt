@@ -18,10 +18,9 @@ use Rattle.search.proofs.First.{found}
 use Rattle.splitter.specs.Feed.{new}
 use Rattle.stream.specs.Rust.{Rust, left, push, turn, turns, rustFeed, rustFrames, rustLeft}
 use Rattle.stream.specs.Stream.{Call, Calls, joined, unlessMore, answers, answerTo}
-use Rattle.stream.specs.Heard.{atLast}
-use Rattle.stream.proofs.Line.{after, opened, hear, hear-append, opened-append}
-use Rattle.stream.proofs.Calls.{stands-fresh, Closed, Unclosed, closes-at, goes-at}
-use Rattle.stream.proofs.Stream.{follows, spoken, spoken-append, spoken-silence, spoken-last, answers-heard}
+use Rattle.stream.proofs.Line.{after, opened, saidAt, hear, frameAt, framesIn, opened-append, frames-append}
+use Rattle.stream.proofs.Calls.{Closed, Unclosed, closes-at, goes-at}
+use Rattle.stream.proofs.Stream.{follows-fresh, spoken, answers-heard}
 
 -- ---- one turn of the loop
 
@@ -62,94 +61,107 @@ module _ (again : List ℕ → Rust) (b : List ℕ) where
 -- ---- the loop beside the line
 
 module _ (H : ℕ) where
-  pub said-to : (w : List ℕ) → unlessMore (answerTo H w) ≡ answerTo H w ∷ []
+  said-to : (w : List ℕ) → unlessMore (answerTo H w) ≡ answerTo H w ∷ []
   said-to w = by-test (leb (length w) H) (λ e. rw e) (λ e. rw e)
 
-  record Loops (b : List ℕ) (r : Rust) : Type 0 where
-    says : spoken (hear H [] b) ≡ map (answerTo H) (r .frames)
-    leaves : opened [] b ≡ r .buf
+  -- what is heard over some bytes, but More, are the answers to the frames that end in them
+  said-at : (w : List ℕ) (b : ℕ) → unlessMore (saidAt H w b) ≡ map (answerTo H) (frameAt w b)
+  said-at [] b = refl
+  said-at (x ∷ w) b = by-test (eqb b 0xF1) (λ e. rw e (said-to (x ∷ (w ++ (b ∷ []))))) (λ e. rw e)
 
-  loops : (n : ℕ) (b : List ℕ) → length b < n → Loops b (turns n b)
-  unfolding turns
-  loops zero b l = absurd (not-suc-le-zero l)
-  loops (suc n) b l =
-      let i = start b in
-      let x = end b in
-      let m = i + suc x in
-      by-lt (i + x) (length b)
-      (λ k.
-      let p : List ℕ = take (suc x) (drop i b) in
-      let c : Closed H [] b m p = closes-at H [] b k in
-      let again : Loops (drop m b) (turns n (drop m b)) = loops n (drop m b) (simp length-drop (omega arith)) in
-      let all : b ≡ take m b ++ drop m b = sym (take-append-drop m b) in
-      rw (turn-closes (turns n) b k) (record {
-        says =
-            ap (λ (y : List ℕ). spoken (hear H [] y)) all
-            ∙ rw (hear-append, c .heard, c .shut, spoken-append (atLast m (answerTo H p)) (hear H [] (drop m b)))
-            (rw (spoken-last m (answerTo H p), said-to p, again .says));
-        leaves = ap (opened []) all ∙ rw (opened-append, c .shut) (again .leaves);
-      }))
-      (λ k.
-      let c : Unclosed H [] b (drop i b) = goes-at H [] b k in
-      rw (turn-goes (turns n) b k) (record { says = ap spoken (c .heard) ∙ spoken-silence (length b); leaves = c .still }))
+  says-frames : (w b : List ℕ) → spoken (hear H w b) ≡ map (answerTo H) (framesIn w b)
+  says-frames w [] = refl
+  says-frames w (b ∷ c) = rw (said-at w b, says-frames (after w b) c) (sym (map-append (answerTo H) (frameAt w b) (framesIn (after w b) c)))
 
-  -- ---- the buffer that the Rust keeps is the frame that is open
+record Loops (b : List ℕ) (r : Rust) : Type 0 where
+  frames : framesIn [] b ≡ r .frames
+  leaves : opened [] b ≡ r .buf
 
-  -- over such bytes nothing is said, and they stay open
-  record Begun (w : List ℕ) : Type 0 where
-    quiet : spoken (hear H [] w) ≡ []
-    still : opened [] w ≡ w
+-- (where a frame lies does not depend on H: any will do)
+loops : (n : ℕ) (b : List ℕ) → length b < n → Loops b (turns n b)
+unfolding turns
+loops zero b l = absurd (not-suc-le-zero l)
+loops (suc n) b l =
+    let i = start b in
+    let x = end b in
+    let m = i + suc x in
+    by-lt (i + x) (length b)
+    (λ k.
+    let p : List ℕ = take (suc x) (drop i b) in
+    let c : Closed 0 [] b m p = closes-at 0 [] b k in
+    let again : Loops (drop m b) (turns n (drop m b)) = loops n (drop m b) (simp length-drop (omega arith)) in
+    let all : b ≡ take m b ++ drop m b = sym (take-append-drop m b) in
+    rw (turn-closes (turns n) b k) (record {
+      frames = ap (framesIn []) all ∙ rw (frames-append, c .frames, c .shut, again .frames);
+      leaves = ap (opened []) all ∙ rw (opened-append, c .shut) (again .leaves);
+    }))
+    (λ k.
+    let c : Unclosed 0 [] b (drop i b) = goes-at 0 [] b k in
+    rw (turn-goes (turns n) b k) (record { frames = c .frames; leaves = c .still }))
 
-  longer : (x : ℕ) (w : List ℕ) (b : ℕ) → eqb b 0xF1 ≡ false → Begun (x ∷ w) → Begun ((x ∷ w) ++ (b ∷ []))
-  longer x w b e k =
-      record {
-        quiet =
-            ap spoken (hear-append H [] (x ∷ w) (b ∷ []))
-            ∙ spoken-append (hear H [] (x ∷ w)) (hear H (opened [] (x ∷ w)) (b ∷ []))
-            ∙ rw (k .quiet) (ap (λ (v : List ℕ). spoken (hear H v (b ∷ []))) (k .still) ∙ rw e);
-        still = opened-append [] (x ∷ w) (b ∷ []) ∙ rw (k .still, e);
-      }
+-- ---- the buffer that the Rust keeps is the frame that is open
 
-  begins : (w : List ℕ) (b : ℕ) → Begun w → Begun (after w b)
-  begins [] b k =
-      by-test (eqb b 0xF0)
-      (λ e. rw (e, eqb-true b 0xF0 e) (record { quiet = refl; still = refl }))
-      (λ e. rw e k)
-  begins (x ∷ w) b k =
-      by-test (eqb b 0xF1)
-      (λ e. rw e (record { quiet = refl; still = refl }))
-      (λ e. rw e (longer x w b e k))
+-- in such bytes no frame ends, and they stay open
+record Begun (w : List ℕ) : Type 0 where
+  quiet : framesIn [] w ≡ []
+  still : opened [] w ≡ w
 
-  begun : (w b : List ℕ) → Begun w → Begun (opened w b)
-  begun w [] k = k
-  begun w (b ∷ c) k = begun (after w b) c (begins w b k)
+longer : (x : ℕ) (w : List ℕ) (b : ℕ) → eqb b 0xF1 ≡ false → Begun (x ∷ w) → Begun ((x ∷ w) ++ (b ∷ []))
+longer x w b e k =
+    record {
+      quiet = frames-append [] (x ∷ w) (b ∷ []) ∙ rw (k .quiet) (ap (λ (v : List ℕ). framesIn v (b ∷ [])) (k .still) ∙ rw e);
+      still = opened-append [] (x ∷ w) (b ∷ []) ∙ rw (k .still, e);
+    }
 
-  rust-says : (w : List ℕ) (ds : List (List ℕ)) → Begun w → spoken (hear H w (joined ds)) ≡ map (answerTo H) (rustFrames w ds)
-  rust-says w [] k = refl
-  rust-says w (d ∷ ds) k =
-      let r : Loops (w ++ d) (rustFeed w d) = loops (suc (length (w ++ d))) (w ++ d) (omega arith) in
-      let says : spoken (hear H w d) ≡ map (answerTo H) (rustFeed w d .frames) = rw (hear-append, k .still, spoken-append, k .quiet) at (r .says) in
-      let leaves : opened w d ≡ rustFeed w d .buf = rw (opened-append, k .still) at (r .leaves) in
-      let rest : spoken (hear H (opened w d) (joined ds)) ≡ map (answerTo H) (rustFrames (opened w d) ds) = rust-says (opened w d) ds (begun w d k) in
-      rw (hear-append, spoken-append, says, rest, leaves) (sym (map-append (answerTo H) (rustFeed w d .frames) (rustFrames (rustFeed w d .buf) ds)))
+begins : (w : List ℕ) (b : ℕ) → Begun w → Begun (after w b)
+begins [] b k =
+    by-test (eqb b 0xF0)
+    (λ e. rw (e, eqb-true b 0xF0 e) (record { quiet = refl; still = refl }))
+    (λ e. rw e k)
+begins (x ∷ w) b k =
+    by-test (eqb b 0xF1)
+    (λ e. rw e (record { quiet = refl; still = refl }))
+    (λ e. rw e (longer x w b e k))
 
-  rust-leaves : (w : List ℕ) (ds : List (List ℕ)) → Begun w → opened w (joined ds) ≡ rustLeft w ds
-  rust-leaves w [] k = refl
-  rust-leaves w (d ∷ ds) k =
-      let r : Loops (w ++ d) (rustFeed w d) = loops (suc (length (w ++ d))) (w ++ d) (omega arith) in
-      let leaves : opened w d ≡ rustFeed w d .buf = rw (opened-append, k .still) at (r .leaves) in
-      opened-append w d (joined ds)
-      ∙ ap (λ (b : List ℕ). opened b (joined ds)) leaves
-      ∙ rust-leaves (rustFeed w d .buf) ds (subst Begun leaves (begun w d k))
+has-begun : (w b : List ℕ) → Begun w → Begun (opened w b)
+has-begun w [] k = k
+has-begun w (b ∷ c) k = has-begun (after w b) c (begins w b k)
+
+-- one `feed` of the Rust, whose buffer holds w, beside the line
+feeds : (w d : List ℕ) → Begun w → (framesIn w d ≡ rustFeed w d .frames) × (opened w d ≡ rustFeed w d .buf)
+feeds w d k =
+    let r : Loops (w ++ d) (rustFeed w d) = loops (suc (length (w ++ d))) (w ++ d) (omega arith) in
+    (rw (frames-append, k .still, k .quiet) at (r .frames), rw (opened-append, k .still) at (r .leaves))
+
+rust-frames : (w : List ℕ) (ds : List (List ℕ)) → Begun w → framesIn w (joined ds) ≡ rustFrames w ds
+rust-frames w [] k = refl
+rust-frames w (d ∷ ds) k =
+    let f = feeds w d k in
+    let rest = rust-frames (opened w d) ds (has-begun w d k) in
+    frames-append w d (joined ds) ∙ rw (f .0, rest, f .1)
+
+rust-leaves : (w : List ℕ) (ds : List (List ℕ)) → Begun w → opened w (joined ds) ≡ rustLeft w ds
+rust-leaves w [] k = refl
+rust-leaves w (d ∷ ds) k =
+    let f = feeds w d k in
+    opened-append w d (joined ds)
+    ∙ ap (λ (b : List ℕ). opened b (joined ds)) (f .1)
+    ∙ rust-leaves (rustFeed w d .buf) ds (subst Begun (f .1) (has-begun w d k))
+
+-- ---- the line, whole
+
+-- the frames that end in it are the Rust's
+pub line-frames : (ds : List (List ℕ)) → framesIn [] (joined ds) ≡ rustFrames [] ds
+line-frames ds = rust-frames [] ds (record { quiet = refl; still = refl })
 
 pub line-says : (H : ℕ) (ds : List (List ℕ)) → spoken (hear H [] (joined ds)) ≡ map (answerTo H) (rustFrames [] ds)
-line-says H ds = rust-says H [] ds (record { quiet = refl; still = refl })
+line-says H ds = says-frames H [] (joined ds) ∙ ap (map (answerTo H)) (line-frames ds)
 
 -- what is left open is the buffer that the Rust keeps
 pub line-leaves : (ds : List (List ℕ)) → opened [] (joined ds) ≡ rustLeft [] ds
-line-leaves ds = rust-leaves 0 [] ds (record { quiet = refl; still = refl })
+line-leaves ds = rust-leaves [] ds (record { quiet = refl; still = refl })
 
 -- The Rust is fed the data ds, one after the other; the port the same bytes, from fresh, cut in any way.
 pub as-the-rust : {h : List ℕ} {t : List Call} {s : FrameSplitter} {k : List ℕ} (ds : List (List ℕ)) → Calls new h (joined ds) t s k
     → answers t ≡ map (answerTo (length h)) (rustFrames [] ds)
-as-the-rust {h} {t} ds c = answers-heard t ∙ ap spoken (follows [] (stands-fresh new h) c .hears) ∙ line-says (length h) ds
+as-the-rust {h} {t} ds c = answers-heard t ∙ ap spoken (follows-fresh c .hears) ∙ line-says (length h) ds

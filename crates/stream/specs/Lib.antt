@@ -2,3 +2,4 @@
 pub mod Stream
 pub mod Heard
 pub mod Rust
+pub mod Noise

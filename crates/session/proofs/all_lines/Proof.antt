@@ -73,7 +73,7 @@ loop-holds : tie.Need-loop-holds Inv-loop μ-loop
 loop-holds c =
     let s = c .before .before .before in
     let a = s .args in
-    going (stage (a .start) (a .hold .now)) (a .chunk .now) (a .out .now) (s .pre .0)
+    going (stage (a .start) (a .hold .now)) (a .chunk .now) (a .out .now) (s .pre .0 .0) (s .pre .0 .1)
 
 sub-next-event : tie.Need-sub-next-event Inv-loop μ-loop
 sub-next-event c = omega arith

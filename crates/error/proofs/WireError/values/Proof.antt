@@ -67,6 +67,9 @@ enum-known-self-9 c = search needs
 enum-known-self-10 : tie.Need-enum-known-self-10
 enum-known-self-10 c = search needs
 
+enum-told-3 : tie.Need-enum-told-3
+enum-told-3 c = search needs
+
 returns : tie.Need-returns
 returns c = sym (ap padded (c .before .self .given .1))
 
@@ -103,6 +106,9 @@ returns-11 c = sym (ap padded (c .before .self9 .given .1))
 returns-12 : tie.Need-returns-12
 returns-12 c = sym (ap padded (c .before .self10 .given .1))
 
+returns-13 : tie.Need-returns-13
+returns-13 c = sym (ap padded (c .enum-told3 .given .1))
+
 pub values-spec : {M : Type 1} → statement M
 values-spec =
     tie.close
@@ -125,6 +131,7 @@ values-spec =
     enum-known-self-8
     enum-known-self-9
     enum-known-self-10
+    enum-told-3
     returns
     returns-2
     returns-3
@@ -136,4 +143,5 @@ values-spec =
     returns-9
     returns-10
     returns-11
-    returns-12)
+    returns-12
+    returns-13)
