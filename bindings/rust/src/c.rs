@@ -59,6 +59,7 @@ extern "C" {
     pub fn mvd_feed(
         count: *mut usize,
         skipping: *mut u8,
+        counts: *mut u64,
         hold: *mut u8,
         hold_len: usize,
         chunk: *const u8,

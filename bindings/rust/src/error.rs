@@ -76,6 +76,8 @@ pub enum WireError {
         /// The FD's place in the interior.
         offset: usize,
     },
+    /// 13: more bytes to a splitter than 64 bits count. ironsight counts none.
+    CounterFull,
 }
 
 /// ironsight's name for each kind of message and field, with the port's number for it.
@@ -116,11 +118,12 @@ impl WireError {
             10 => Self::PayloadTooLong { len: first },
             11 => Self::NoField { number: values[0] },
             12 => Self::CutEscape { offset: first },
+            13 => Self::CounterFull,
             other => unreachable!("the library told refusal {other}, which there is not"),
         }
     }
 
-    /// The refusal's number, 1 to 12.
+    /// The refusal's number, 1 to 13.
     pub fn number(&self) -> u64 {
         match self {
             Self::FrameTooShort { .. } => 1,
@@ -135,6 +138,7 @@ impl WireError {
             Self::PayloadTooLong { .. } => 10,
             Self::NoField { .. } => 11,
             Self::CutEscape { .. } => 12,
+            Self::CounterFull => 13,
         }
     }
 
@@ -142,7 +146,7 @@ impl WireError {
     /// type byte, 1 to 7 for a field's kind, or 0 for a name that the library does not give.
     pub fn values(&self) -> Vec<u64> {
         match *self {
-            Self::MissingEnd | Self::BadState => Vec::new(),
+            Self::MissingEnd | Self::BadState | Self::CounterFull => Vec::new(),
             Self::FrameTooShort { len } | Self::PayloadTooLong { len } => vec![len as u64],
             Self::MissingStart { got: byte } | Self::UnknownBusAddr { addr: byte } => vec![byte.into()],
             Self::InvalidEscape { code, offset } => vec![code.into(), offset as u64],
@@ -200,6 +204,7 @@ impl fmt::Display for WireError {
             Self::CutEscape { offset } => {
                 write!(f, "FD at {offset} ends the interior and escapes nothing: drop the frame, and look at the cable")
             }
+            Self::CounterFull => write!(f, "the splitter has counted all that 64 bits count: start with a new splitter"),
         }
     }
 }

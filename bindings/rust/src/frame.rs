@@ -89,11 +89,28 @@ const LONGEST: usize = 131_082;
 ///
 /// It holds an open frame up to a limit that ironsight lacks, 131,082 bytes or [`with_hold`](Self::with_hold)'s. A longer
 /// frame is left out of what [`feed`](Self::feed) answers, and [`overlong`](Self::overlong) counts it.
+/// [`counts`](Self::counts) tells what became of every byte.
 pub struct FrameSplitter {
     hold: Box<[u8]>,
     count: usize,
     skipping: u8,
+    counts: [u64; 5],
     overlong: u64,
+}
+
+/// What became of the bytes that a splitter was fed since it was new, so many of each; `taken` is the sum of the other four.
+#[derive(Debug, Clone, Copy, Default, PartialEq, Eq)]
+pub struct Counts {
+    /// All of them.
+    pub taken: u64,
+    /// Outside frames: the line's noise.
+    pub dropped: u64,
+    /// In the frames that were answered, F0 and F1 included.
+    pub framed: u64,
+    /// In frames longer than the splitter holds, one that is still open included.
+    pub lost: u64,
+    /// In the frame that is still open, where it is no longer than that.
+    pub held: u64,
 }
 
 impl FrameSplitter {
@@ -104,16 +121,21 @@ impl FrameSplitter {
 
     /// A splitter that holds so many bytes, and leaves out every frame longer than that.
     pub fn with_hold(bytes: usize) -> Self {
-        Self { hold: vec![0; bytes].into(), count: 0, skipping: 0, overlong: 0 }
+        Self { hold: vec![0; bytes].into(), count: 0, skipping: 0, counts: [0; 5], overlong: 0 }
     }
 
     /// Takes all the bytes, and answers the frames that they complete, each from its F0 to its F1.
+    ///
+    /// # Panics
+    ///
+    /// Where the bytes since it was new would be more than 18,446,744,073,709,551,615, which [`Counts`] cannot count.
     pub fn feed(&mut self, data: &[u8]) -> Vec<Vec<u8>> {
         let mut frames = Vec::new();
         let mut rest = data;
         while !rest.is_empty() {
-            let fed = ffi::feed(&mut self.count, &mut self.skipping, &mut self.hold, rest);
-            let [event, taken, in_hold, start, len] = fed.expect("the library takes each state that it gave").map(|n| n as usize);
+            let fed = ffi::feed(&mut self.count, &mut self.skipping, &mut self.counts, &mut self.hold, rest);
+            let fed = fed.expect("the library takes each state that it gave, up to 2^64 - 1 bytes");
+            let [event, taken, in_hold, start, len] = fed.map(|n| n as usize);
             match event {
                 1 => frames.push((if in_hold == 1 { &self.hold } else { rest })[start..start + len].to_vec()),
                 2 => self.overlong += 1,
@@ -127,6 +149,12 @@ impl FrameSplitter {
     /// How many frames were left out so far since they were longer than the splitter holds.
     pub fn overlong(&self) -> u64 {
         self.overlong
+    }
+
+    /// What became of the bytes so far.
+    pub fn counts(&self) -> Counts {
+        let [taken, dropped, framed, lost, held] = self.counts;
+        Counts { taken, dropped, framed, lost, held }
     }
 
     /// The bytes held of a frame that is still open.

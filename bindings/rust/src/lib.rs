@@ -22,6 +22,10 @@
 //!
 //! let refused = RawFrame::parse(&wires[1]).unwrap_err();
 //! assert_eq!((refused.number(), refused.values()), (1, vec![2]));
+//!
+//! // what the line loses: one byte of ten was noise
+//! let counts = splitter.counts();
+//! assert_eq!((counts.taken, counts.dropped, counts.framed), (10, 1, 9));
 //! # Ok::<(), movaleduft::error::WireError>(())
 //! ```
 //!
@@ -30,6 +34,7 @@
 //! - [`FrameSplitter::new`](frame::FrameSplitter::new) holds 131,082 bytes, enough for every wire of the encoder; a longer frame is
 //!   left out and counted. [`with_hold`](frame::FrameSplitter::with_hold) takes another length.
 //! - [`RawFrame::encode`](frame::RawFrame::encode) answers a `Result`: a payload above 65,535 bytes is refused.
+//! - A splitter takes 2^64 - 1 bytes in all, which its [`counts`](frame::FrameSplitter::counts) can count, and panics at more.
 //! - A field's place whose sum with its width passes the largest `usize` is refused; ironsight's sum wraps.
 //!
 //! # What else differs

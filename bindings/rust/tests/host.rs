@@ -3,7 +3,7 @@
 use movaleduft::addr::BusAddr;
 use movaleduft::codec::{read_float40, read_int24, write_float40, write_int24};
 use movaleduft::error::{value_count, WireError};
-use movaleduft::frame::{FrameSplitter, RawFrame};
+use movaleduft::frame::{Counts, FrameSplitter, RawFrame};
 use movaleduft::protocol::shot::{bay_log, field, ClubPrc, Field, FlightResult, FlightResultV1, LeagueRule, ShotText};
 
 fn wire(payload: &[u8]) -> Vec<u8> {
@@ -81,6 +81,28 @@ fn a_frame_above_the_hold_is_left_out_and_counted() {
 }
 
 #[test]
+fn every_byte_is_counted_once() {
+    // noise, a frame, noise with an end, a frame above the hold, a frame that is still open
+    let stream = [&[0, 0xF1][..], &wire(&[1]), &[0xF1; 3], &wire(&[0; 100]), &wire(&[2; 9])[..4]].concat();
+    let long = wire(&[0; 100]).len() as u64;
+    for chunk in [1, 7, 50, stream.len()] {
+        let mut splitter = FrameSplitter::with_hold(50);
+        assert_eq!(splitter.counts(), Counts::default());
+        stream.chunks(chunk).for_each(|part| drop(splitter.feed(part)));
+        let counts = Counts { taken: stream.len() as u64, dropped: 5, framed: 8, lost: long, held: 4 };
+        assert_eq!(splitter.counts(), counts);
+        // an empty chunk alters nothing; an end that completes what is held, then noise
+        assert!(splitter.feed(&[]).is_empty());
+        assert_eq!(splitter.counts(), counts);
+        splitter.feed(&[0xF1, 0xF1]);
+        assert_eq!(splitter.counts(), Counts { taken: counts.taken + 2, dropped: 6, framed: 13, held: 0, ..counts });
+        // what is being skipped is lost already
+        splitter.feed(&[0xF0; 51]);
+        assert_eq!(splitter.counts(), Counts { taken: counts.taken + 53, dropped: 6, framed: 13, lost: long + 51, held: 0 });
+    }
+}
+
+#[test]
 fn a_refusal_tells_its_number_and_values() {
     let refused = read_int24(&[1, 2, 3], usize::MAX).unwrap_err();
     assert_eq!((refused.number(), refused.values()), (7, vec![3, u64::MAX, 3]));
@@ -102,11 +124,12 @@ fn a_refusal_tells_its_number_and_values() {
         WireError::PayloadTooLong { len: 65_536 },
         WireError::NoField { number: 52 },
         WireError::CutEscape { offset: 4 },
+        WireError::CounterFull,
     ];
     for e in all {
         assert_eq!(e.values().len(), value_count(e.number()), "{e}");
     }
-    assert_eq!((value_count(0), value_count(13)), (0, 0));
+    assert_eq!((value_count(0), value_count(14)), (0, 0));
 }
 
 #[test]
