@@ -3,14 +3,15 @@
 //! lies, a float by its bits, the league's rules, a field by number, the log's record.
 //!
 //! Its other answers are vectors: host.rs cuts them to a lent buffer's length for both crates alike, so refusal 8 and the bytes
-//! past an answer are not the crate's there. A state that no call gives cannot be had, so 9 is not the crate's; every other is
-//! reached by an open frame that stands for it.
+//! past an answer are not the crate's there. A state that no call gives cannot be had, nor one near 2^64, so 9 and 13 are not the
+//! crate's; every other is reached by an open frame that stands for it, and the crate's counts are those since.
 use crate::answer::{Answer, Case};
+use crate::noise::Counts;
 use crate::ops::{self, Offered};
 use movaleduft as radar;
 use radar::codec;
 use radar::error::WireError;
-use radar::frame::{FrameSplitter, RawFrame};
+use radar::frame::{self, FrameSplitter, RawFrame};
 use radar::protocol::shot::{self, Field, FlightResult, FlightResultV1, LeagueRule, ShotText};
 
 #[allow(clippy::duplicate_mod)] // the same text over both crates is what it is for
@@ -43,11 +44,18 @@ fn copy_payload(c: &Case) -> Answer {
     answer
 }
 
+fn counts(splitter: &FrameSplitter) -> Counts {
+    let frame::Counts { taken, dropped, framed, lost, held } = splitter.counts();
+    [taken, dropped, framed, lost, held]
+}
+
 /// A splitter that holds H bytes is held to one that holds every wire of the encoder, whose longer frames are told as -1.
 fn split(offered: &Offered) -> Answer {
-    let unlimited = host::split(offered);
+    let mut unlimited = host::split(offered);
     let mut splitter = FrameSplitter::with_hold(offered.hold);
-    let frames: Vec<Vec<u8>> = offered.all().flat_map(|chunk| splitter.feed(chunk)).collect();
+    let mut frames = splitter.feed(&offered.open);
+    let opened = counts(&splitter);
+    frames.extend(offered.chunks.iter().flat_map(|chunk| splitter.feed(chunk)));
     let mut limited = Answer { bytes: frames.concat(), ..Answer::default() };
     limited.bytes.extend_from_slice(splitter.held());
     limited.whole.extend(frames.iter().map(|f| f.len() as i128));
@@ -59,6 +67,7 @@ fn split(offered: &Offered) -> Answer {
         limited = offered.as_held(limited);
     }
     assert_eq!(limited, told, "the frames differ by the hold");
+    unlimited.whole.extend(offered.counted(opened, counts(&splitter)));
     unlimited
 }
 
@@ -100,7 +109,7 @@ pub fn ask(c: &Case) -> Answer {
         ops::WRITE_FLOAT40_BITS => host::written(c, c.a, |v| codec::write_float40_bits(v, c.b)),
         ops::OPEN => open(c),
         ops::COPY_PAYLOAD => copy_payload(c),
-        ops::SPLIT | ops::STATE => Offered::of(c).map_or_else(|| host::ask(c), |offered| split(&offered)),
+        ops::SPLIT | ops::STATE | ops::COUNTED => Offered::answered(c, split),
         ops::SHOT_TEXT => text(c),
         ops::IS_FAILED => failed(c, FlightResult::payload_failed),
         ops::IS_FAILED_V1 => failed(c, FlightResultV1::payload_failed),

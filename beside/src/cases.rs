@@ -1,6 +1,6 @@
 //! Makes cases: every boundary that document 01 names, short inputs exhaustively, and random, extreme and damaged ones.
 use crate::answer::Case;
-use crate::ops;
+use crate::{counted, ops};
 use ironsight::addr::BusAddr;
 use ironsight::frame::RawFrame;
 
@@ -216,7 +216,7 @@ pub fn state(count: u64, hold: u64, mark: u8, chunk: Vec<u8>) -> Case {
 pub const MARKS: [u8; 4] = [0, 1, 2, 255];
 
 /// A state, most often one that a call gives, with a chunk that has something in it most often.
-fn state_case(r: &mut Random) -> Case {
+pub fn state_case(r: &mut Random) -> Case {
     let hold = r.one_of(&[6, 40, 300]);
     let hold = r.below(hold);
     let (count, mark) = match r.below(8) {
@@ -370,6 +370,7 @@ pub fn random(r: &mut Random) -> Case {
         4..=6 => write_case(r),
         7..=9 => frame_case(r),
         10 if r.below(4) == 0 => state_case(r),
+        10 if r.below(3) == 0 => counted::random(r),
         10 | 11 => split_case(r),
         12 => message_case(r),
         13 => by_number_case(r),

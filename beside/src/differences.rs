@@ -1,7 +1,7 @@
 //! The inputs of docs/DIFFERENCES.md on both sides: what the Rust itself answers, without document 01's limits, and the port.
 //! A debug build of the Rust panics where a sum wraps: run this in both builds.
 use crate::answer::{hex, Answer, Case};
-use crate::{ops, port};
+use crate::{cases, counted, ops, port};
 use ironsight::addr::BusAddr;
 use ironsight::codec;
 use ironsight::frame::{FrameSplitter, RawFrame};
@@ -69,8 +69,26 @@ fn frames() {
     row("split F0 00 00 F1, H 3", ops::SPLIT, 3, 0, &[0xF0, 0, 0, 0xF1], || {
         format!("{:X?}", FrameSplitter::new().feed(&[0xF0, 0, 0, 0xF1]))
     });
-    row("a count of 1 where H is 0", ops::STATE, 1, 0, &[], || "no such state".into());
-    row("a mark of 2, H 3", ops::STATE, 0, 3 << 8 | 2, &[0xF1], || "no such state".into());
+    states();
+}
+
+/// A state that the caller gives: the Rust's is its own.
+fn state_row(what: &str, c: Case) {
+    row(what, c.op, c.a, c.b, &c.data, || "no such state".into());
+}
+
+fn states() {
+    state_row("a count of 1 where H is 0", cases::state(1, 0, 0, vec![]));
+    state_row("a mark of 2, H 3", cases::state(0, 3, 2, vec![0xF1]));
+    let noise = [0x00, 0xF0, 0xF1, 0x00, 0xF0, 0x00, 0x00, 0xF1, 0xF0];
+    row("the counts of 00 F0 F1 00 F0 00 00 F1 F0, H 3", ops::SPLIT, 3, 0, &noise, move || {
+        format!("{:X?}, no counts", FrameSplitter::new().feed(&noise))
+    });
+    state_row("taken 1, and nothing else counted, H 3", counted::state(0, 3, 0, [1, 0, 0, 0, 0], &[]));
+    state_row("held 1 with a count of 0, H 3", counted::state(0, 3, 0, [1, 0, 0, 0, 1], &[]));
+    let most = [u64::MAX, u64::MAX, 0, 0, 0];
+    state_row("taken 18446744073709551615, all dropped, and no byte more", counted::state(0, 3, 0, most, &[]));
+    state_row("taken 18446744073709551615, all dropped, and 00", counted::state(0, 3, 0, most, &[0x00]));
 }
 
 fn messages() {

@@ -242,7 +242,6 @@ pub fn ask(c: &Case) -> Answer {
         ops::OPEN => open(c),
         ops::COPY_PAYLOAD => copy_payload(c),
         ops::ENCODE => encode(c),
-        ops::SPLIT | ops::STATE => Offered::of(c).map_or_else(|| Answer::refused(9, &[]), |offered| split(&offered)),
         ops::FLIGHT_RESULT => FlightResult::decode(d).map_or_else(refusal, |r| flight(&r)),
         ops::FLIGHT_RESULT_V1 => FlightResultV1::decode(d).map_or_else(refusal, |r| flight_v1(&r)),
         ops::CLUB_RESULT => ClubResult::decode(d).map_or_else(refusal, |r| club(&r)),

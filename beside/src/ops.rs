@@ -1,6 +1,8 @@
 //! The operations by number, and what a case's two numbers mean for each.
 //! What of a case both sides are offered alike is made here: the chunks of a stream, the frame that stands for a state.
 use crate::answer::{Answer, Case};
+use crate::noise::{self, Counts};
+use std::array::from_fn;
 use std::iter::once;
 
 /// Readers at a place: a is the place, b the scale's bits for the scaled ones.
@@ -29,10 +31,12 @@ pub const OPEN: u8 = 0x20;
 pub const ENCODE: u8 = 0x21;
 /// a is H; b has the sizes of the chunks offered, four of 16 bits, in turn (see `sizes`).
 pub const SPLIT: u8 = 0x22;
-/// a is the count, b is H times 256 plus the mark: the bytes are a chunk, offered to that state.
+/// a is the count, b is H times 256 plus the mark: the bytes are a chunk, offered to that state, which took what it holds and no more.
 pub const STATE: u8 = 0x23;
 /// The Rust's parse without the header: a is the lent buffer's length.
 pub const COPY_PAYLOAD: u8 = 0x24;
+/// As `STATE`, but the state's counts stand before the chunk: five of 64 bits, little-endian.
+pub const COUNTED: u8 = 0x25;
 pub const FLIGHT_RESULT: u8 = 0x30;
 pub const FLIGHT_RESULT_V1: u8 = 0x31;
 pub const CLUB_RESULT: u8 = 0x32;
@@ -97,17 +101,40 @@ fn sizes(b: u64, len: usize) -> Vec<usize> {
     turn.into_iter().cycle().take_while(covers).collect()
 }
 
+/// A state, and the chunk that it is offered.
+pub struct State<'a> {
+    pub count: u64,
+    pub hold: u64,
+    pub mark: u8,
+    pub counts: Counts,
+    pub chunk: &'a [u8],
+}
+
+impl<'a> State<'a> {
+    pub fn of(c: &'a Case) -> Self {
+        let (counts, chunk) = match c.data.split_first_chunk::<40>() {
+            Some((bytes, chunk)) if c.op == COUNTED => {
+                (from_fn(|k| u64::from_le_bytes(bytes[8 * k..][..8].try_into().expect("eight bytes"))), chunk)
+            }
+            _ => ([c.a, 0, 0, 0, c.a], &c.data[..]),
+        };
+        Self { count: c.a, hold: c.b >> 8, mark: c.b as u8, counts, chunk }
+    }
+}
+
 /// What a splitter is offered.
 pub struct Offered<'a> {
     pub hold: usize,
+    /// The counts at the start.
+    counts: Counts,
     /// Stands for the state at the start, on a side that has no state to give: an open frame that is held, or one above H.
     pub open: Vec<u8>,
     pub chunks: Vec<&'a [u8]>,
 }
 
 impl<'a> Offered<'a> {
-    /// A split's stream, or a state's chunk. None for a state that no call gives.
-    pub fn of(c: &'a Case) -> Option<Self> {
+    /// A split's stream, or a state's chunk; the refusal's number for a state that is refused.
+    pub fn of(c: &'a Case) -> Result<Self, u64> {
         if c.op == SPLIT {
             let mut rest = &c.data[..];
             let mut next = |size: usize| {
@@ -116,23 +143,32 @@ impl<'a> Offered<'a> {
                 chunk
             };
             let chunks = sizes(c.b, c.data.len()).into_iter().map(&mut next).collect();
-            return Some(Self { hold: c.a as usize, open: Vec::new(), chunks });
+            return Ok(Self { hold: c.a as usize, counts: [0; 5], open: Vec::new(), chunks });
         }
-        let (count, hold, mark) = (c.a, c.b >> 8, c.b as u8);
-        let len = match mark {
-            0 if count <= hold => count,
-            1 if count == 0 => hold + 1,
-            _ => return None,
-        };
+        let State { count, hold, mark, counts, chunk } = State::of(c);
+        if let Some(number) = noise::refusal(count, mark, counts, hold, chunk.len()) {
+            return Err(number);
+        }
+        let len = if mark == 0 { count } else { hold + 1 };
         let mut open = vec![UNTOUCHED; len as usize];
         if let Some(first) = open.first_mut() {
             *first = 0xF0;
         }
-        Some(Self { hold: hold as usize, open, chunks: vec![&c.data] })
+        Ok(Self { hold: hold as usize, counts, open, chunks: vec![chunk] })
+    }
+
+    /// The refusal, or what a side that is fed the frames answers.
+    pub fn answered(c: &Case, split: fn(&Offered) -> Answer) -> Answer {
+        Offered::of(c).map_or_else(|number| Answer::refused(number, &[]), |offered| split(&offered))
     }
 
     pub fn all(&self) -> impl Iterator<Item = &[u8]> {
         once(&self.open[..]).chain(self.chunks.iter().copied())
+    }
+
+    /// The counts at the end: those at the start, and what a side that started fresh counted since it was fed the open frame.
+    pub fn counted(&self, opened: Counts, ended: Counts) -> impl Iterator<Item = i128> + '_ {
+        (0..5).map(move |k| i128::from(self.counts[k]) + i128::from(ended[k]) - i128::from(opened[k]))
     }
 
     /// The answer with the bytes that were held at the start as the hold buffer has them, where it shows them: they are those

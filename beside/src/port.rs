@@ -1,7 +1,8 @@
 //! What the port answers to a case, through the exported library (include/movaleduft.h), as bindings/rust declares it.
 //! Every lent place is looked at after the call: what is not answered keeps its bytes.
 use crate::answer::{bits, Answer, Case};
-use crate::ops::{self, Offered};
+use crate::noise::{self, Counts};
+use crate::ops::{self, Offered, State};
 use movaleduft::c;
 
 /// No call may touch a value that it does not answer.
@@ -106,9 +107,11 @@ fn encode(c: &Case) -> Answer {
 }
 
 /// A state and its hold buffer.
+#[derive(Clone, PartialEq)]
 struct Splitter {
     count: usize,
     skipping: u8,
+    counts: Counts,
     hold: Vec<u8>,
 }
 
@@ -120,27 +123,36 @@ struct Fed {
 
 impl Splitter {
     fn new(room: usize) -> Self {
-        Self { count: 0, skipping: 0, hold: vec![ops::UNTOUCHED; room] }
+        Self { count: 0, skipping: 0, counts: [0; 5], hold: vec![ops::UNTOUCHED; room] }
     }
 
-    fn feed(&mut self, chunk: &[u8]) -> Fed {
-        let (mut fed, mut values) = ([MARK; 5], [MARK; 3]);
-        let (hold, room) = (self.hold.as_mut_ptr(), self.hold.len());
-        let refusal = unsafe {
-            let (f, v) = (fed.as_mut_ptr(), values.as_mut_ptr());
-            c::mvd_feed(&mut self.count, &mut self.skipping, hold, room, chunk.as_ptr(), chunk.len(), f, v)
-        };
-        assert_eq!(refusal, 0, "a state that feed gave was refused");
+    /// One call, or its refusal, which alters nothing. One number more of each is lent, which must stay.
+    fn feed(&mut self, chunk: &[u8]) -> Result<Fed, Answer> {
+        let old = self.clone();
+        let (mut fed, mut counts) = ([MARK; 6], [MARK; 6]);
+        counts[..5].copy_from_slice(&self.counts);
+        let r = told(|v| unsafe {
+            let (k, h, room, f) = (counts.as_mut_ptr(), self.hold.as_mut_ptr(), self.hold.len(), fed.as_mut_ptr());
+            c::mvd_feed(&mut self.count, &mut self.skipping, k, h, room, chunk.as_ptr(), chunk.len(), f, v)
+        });
+        assert!(fed[5] == MARK && counts[5] == MARK, "more was written than the call answers");
+        self.counts.copy_from_slice(&counts[..5]);
+        if r.refusal != 0 {
+            assert!(*self == old && fed == [MARK; 6], "a refusal altered the state, the hold buffer or the answer");
+            return Err(r);
+        }
+        assert!(noise::balance(self.counts) && self.counts[4] == self.count as u64, "the counts do not balance");
+        assert_eq!(self.counts[0] - old.counts[0], fed[1], "other bytes were counted than taken");
         let frame = (fed[0] == 1).then(|| (fed[2] == 1, fed[3] as usize, fed[4] as usize));
-        Fed { event: fed[0], taken: fed[1] as usize, frame }
+        Ok(Fed { event: fed[0], taken: fed[1] as usize, frame })
     }
 
     /// A chunk, and each untaken rest again until none is left. Each call is held to document 01's words on the hold buffer: it
     /// writes exactly the bytes it adds, from the old count on.
-    fn offer(&mut self, mut chunk: &[u8], answer: &mut Answer) {
+    fn offer(&mut self, mut chunk: &[u8], answer: &mut Answer) -> Result<(), Answer> {
         loop {
             let (old_hold, old_count) = (self.hold.clone(), self.count);
-            let fed = self.feed(chunk);
+            let fed = self.feed(chunk)?;
             assert!(fed.taken <= chunk.len() && (fed.taken > 0 || chunk.is_empty()), "taken {} of {}", fed.taken, chunk.len());
             let added = match fed.frame {
                 Some((true, _, len)) => len - old_count,
@@ -161,14 +173,15 @@ impl Splitter {
             }
             chunk = &chunk[fed.taken..];
             if chunk.is_empty() {
-                break;
+                return Ok(());
             }
         }
     }
 
-    /// The count and the mark at the end, and the bytes held.
+    /// The count, the mark and the counts at the end, and the bytes held.
     fn end(self, mut answer: Answer) -> Answer {
         answer.whole.extend([self.count as i128, self.skipping as i128]);
+        answer.whole.extend(self.counts.map(i128::from));
         answer.bytes.extend_from_slice(&self.hold[..self.count]);
         answer
     }
@@ -178,26 +191,16 @@ fn split(c: &Case) -> Answer {
     let mut s = Splitter::new(c.a as usize);
     let mut answer = Answer::default();
     let offered = Offered::of(c).expect("a split starts fresh");
-    offered.chunks.iter().for_each(|chunk| s.offer(chunk, &mut answer));
-    s.end(answer)
+    let told = offered.chunks.iter().try_for_each(|chunk| s.offer(chunk, &mut answer));
+    told.map_or_else(|refused| refused, |()| s.end(answer))
 }
 
-/// A state that the caller gives: 9 where document 01 says so, and nothing is altered; else it goes on as a split does.
+/// A state that the caller gives: refused at the first call, or it goes on as a split does.
 fn state(c: &Case) -> Answer {
-    let mut s = Splitter { count: c.a as usize, skipping: c.b as u8, hold: vec![ops::UNTOUCHED; (c.b >> 8) as usize] };
-    if Offered::of(c).is_some() {
-        let mut answer = Answer::default();
-        s.offer(&c.data, &mut answer);
-        return s.end(answer);
-    }
-    let mut fed = [MARK; 5];
-    let r = told(|v| unsafe {
-        let (h, room, f) = (s.hold.as_mut_ptr(), s.hold.len(), fed.as_mut_ptr());
-        c::mvd_feed(&mut s.count, &mut s.skipping, h, room, c.data.as_ptr(), c.data.len(), f, v)
-    });
-    assert!(s.count as u64 == c.a && s.skipping == c.b as u8 && fed == [MARK; 5], "a bad state was altered");
-    assert!(s.hold.iter().all(|&b| b == ops::UNTOUCHED), "a bad state altered the hold buffer");
-    r
+    let State { count, hold, mark, counts, chunk } = State::of(c);
+    let mut s = Splitter { count: count as usize, skipping: mark, counts, hold: vec![ops::UNTOUCHED; hold as usize] };
+    let mut answer = Answer::default();
+    s.offer(chunk, &mut answer).map_or_else(|refused| refused, |()| s.end(answer))
 }
 
 fn speed(c: &Case) -> Answer {
@@ -296,7 +299,7 @@ pub fn ask(c: &Case) -> Answer {
         ops::COPY_PAYLOAD => copy_payload(c),
         ops::ENCODE => encode(c),
         ops::SPLIT => split(c),
-        ops::STATE => state(c),
+        ops::STATE | ops::COUNTED => state(c),
         ops::FLIGHT_RESULT => record(8, 44, |w, x, v| unsafe { c::mvd_flight_result(d, n, w, x, v) }),
         ops::FLIGHT_RESULT_V1 => record(4, 27, |w, x, v| unsafe { c::mvd_flight_result_v1(d, n, w, x, v) }),
         ops::CLUB_RESULT => record(3, 53, |w, x, v| unsafe { c::mvd_club_result(d, n, w, x, v) }),

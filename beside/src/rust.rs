@@ -1,7 +1,9 @@
 //! What the Rust answers to a case: host.rs over ironsight itself. What it does not have is reckoned here by the client's words:
-//! a place near the largest usize, a payload's length to encode, where a text lies, the league's rules, a field by number, the log.
+//! a place near the largest usize, a payload's length to encode, a splitter's counts, where a text lies, the league's rules, a field by
+//! number, the log.
 use crate::answer::{Answer, Case};
-use crate::ops;
+use crate::noise;
+use crate::ops::{self, Offered};
 use ironsight as radar;
 use radar::codec;
 use radar::error::WireError;
@@ -55,6 +57,15 @@ fn wire(frame: &RawFrame) -> Result<Vec<u8>, Answer> {
 fn past_largest(c: &Case) -> Option<Answer> {
     let (kind, width) = ops::reader(c.op)?;
     c.a.checked_add(width).is_none().then(|| Answer::refused(7, &[kind, u64::MAX, c.data.len() as u64]))
+}
+
+/// The Rust's frames, and the counts that they give.
+fn split(offered: &Offered) -> Answer {
+    let counts = |line: &[u8]| noise::counts(line, offered.hold);
+    let line: Vec<u8> = offered.all().flatten().copied().collect();
+    let mut answer = host::split(offered);
+    answer.whole.extend(offered.counted(counts(&offered.open), counts(&line)));
+    answer
 }
 
 /// The Rust has the repaired text, not its place: the part without bytes below 20 hex at both ends.
@@ -117,6 +128,7 @@ pub fn ask(c: &Case) -> Answer {
     }
     let d = &c.data[..];
     match c.op {
+        ops::SPLIT | ops::STATE | ops::COUNTED => Offered::answered(c, split),
         ops::SHOT_TEXT => text(c),
         ops::IS_FAILED => by_rule(c, || {
             FlightResult::decode(d).map_or_else(refusal, |r| failed(c, r.is_model_failure(), r.flight_time, r.carry_distance))
