@@ -11,6 +11,7 @@ enum {
     MAX_LENT = 1024,  /* bytes of a lent buffer that the case does not give */
     MAX_SPEEDS = 64,
     HEAD = 34,        /* digits before a case's bytes */
+    COUNTS = 40,      /* bytes of a state's five counts */
     GUARD = 16,       /* bytes behind a lent buffer */
     LENT = 0xA5,      /* what a lent buffer has before a call */
     MARK = 0x55       /* what every other place has, and what stands behind a buffer */
@@ -32,6 +33,7 @@ struct told {
 #define IN_A_ROW(STRUCT, MANY, TYPE) typedef char STRUCT##_in_a_row[sizeof(struct STRUCT) == (MANY) * sizeof(TYPE) ? 1 : -1]
 IN_A_ROW(mvd_header, 4, uint64_t);
 IN_A_ROW(mvd_fed, 5, uint64_t);
+IN_A_ROW(mvd_counts, 5, uint64_t);
 IN_A_ROW(mvd_flight_whole, 8, int32_t);
 IN_A_ROW(mvd_flight_figures, 44, double);
 IN_A_ROW(mvd_flight_v1_whole, 4, int32_t);
@@ -252,15 +254,19 @@ struct found {
 struct splitter {
     size_t count;
     uint8_t skipping;
+    struct mvd_counts counts;
+    uint64_t behind; /* the counts */
     uint8_t hold[MAX_LENT + GUARD];
     size_t room;
     struct found *found;
 };
 
-static void start(struct splitter *s, size_t count, uint8_t skipping, size_t room) {
+static void start(struct splitter *s, size_t count, uint8_t skipping, const struct mvd_counts *counts, size_t room) {
     static struct found found;
     s->count = count;
     s->skipping = skipping;
+    s->counts = *counts;
+    mark(&s->behind, sizeof s->behind);
     s->room = room;
     s->found = &found;
     found.frames = found.len = 0;
@@ -291,23 +297,33 @@ static void keep_frame(const struct splitter *s, const uint8_t *chunk, size_t le
     f->len += (size_t)fed->len;
 }
 
+/* What was taken is counted, all of it is in one of the other four, and nothing is written behind the counts. */
+static void check_counts(const struct splitter *s, const struct splitter *old, uint64_t taken) {
+    const struct mvd_counts *k = &s->counts;
+    check(marked(&s->behind, sizeof s->behind), "more than five counts were written");
+    check(k->taken - old->counts.taken == taken, "other bytes are counted than were taken");
+    check(k->taken == k->dropped + k->framed + k->lost + k->held && k->held == s->count, "the counts do not balance");
+}
+
 /* One call of `mvd_feed`; `taken` gets how many bytes it took. */
 static uint64_t feed(struct splitter *s, const uint8_t *chunk, size_t len, struct told *t, size_t *taken) {
     struct { struct mvd_fed fed; uint64_t end; } r;
     struct splitter old = *s;
     mark(t, sizeof *t);
     mark(&r, sizeof r);
-    uint64_t refusal = mvd_feed(&s->count, &s->skipping, s->hold, s->room, chunk, len, &r.fed, t->values);
+    uint64_t refusal = mvd_feed(&s->count, &s->skipping, &s->counts, s->hold, s->room, chunk, len, &r.fed, t->values);
     check(marked(&r.end, sizeof r.end), "more than five words were written");
     if (refusal != MVD_OK) {
         int kept = s->count == old.count && s->skipping == old.skipping && marked(&r, sizeof r);
-        check(kept && memcmp(s->hold, old.hold, s->room + GUARD) == 0, "a refusal wrote");
+        check(kept && memcmp(&s->counts, &old.counts, sizeof s->counts) == 0, "a refusal wrote");
+        check(marked(&s->behind, sizeof s->behind) && memcmp(s->hold, old.hold, s->room + GUARD) == 0, "a refusal wrote");
         return refusal;
     }
     check(r.fed.event <= MVD_OVERLONG && r.fed.in_hold <= 1, "an event or a buffer that the header does not name");
     check(r.fed.taken <= len && (r.fed.taken > 0 || len == 0), "no byte was taken, or more than were offered");
     check(r.fed.event != MVD_MORE || r.fed.taken == len, "MVD_MORE with bytes that were not taken");
     check_hold(s, &old, chunk, &r.fed);
+    check_counts(s, &old, r.fed.taken);
     keep_frame(s, chunk, len, &r.fed);
     *taken = (size_t)r.fed.taken;
     return MVD_OK;
@@ -324,11 +340,20 @@ static uint64_t offer(struct splitter *s, const uint8_t *chunk, size_t len, stru
     return MVD_OK;
 }
 
+static void counts(const struct mvd_counts *k) {
+    unsigned_whole(k->taken);
+    unsigned_whole(k->dropped);
+    unsigned_whole(k->framed);
+    unsigned_whole(k->lost);
+    unsigned_whole(k->held);
+}
+
 /* The answer of a splitter that was not refused. */
 static void end_split(const struct splitter *s) {
     for (size_t i = 0; i < s->found->frames; i++) whole(s->found->lengths[i]);
     unsigned_whole(s->count);
     whole(s->skipping);
+    counts(&s->counts);
     printf(" :");
     hex(s->found->bytes, s->found->len);
     hex(s->hold, s->count);
@@ -339,9 +364,10 @@ static void end_split(const struct splitter *s) {
 static void split(struct question *q) {
     struct splitter s;
     struct told t;
+    struct mvd_counts none = {0, 0, 0, 0, 0};
     uint64_t sizes = q->b == 0 ? UINT64_C(0x0040004000400040) : q->b;
     size_t at = 0;
-    start(&s, 0, 0, lent_length(q->a));
+    start(&s, 0, 0, &none, lent_length(q->a));
     while (at < q->len) {
         size_t size = (size_t)(sizes >> 48);
         if (size > q->len - at) size = q->len - at;
@@ -354,12 +380,33 @@ static void split(struct question *q) {
 }
 
 /* A state that the case gives: the chunk is offered to it, or it is refused. */
-static void state(struct question *q) {
+static void offer_state(struct question *q, const struct mvd_counts *counts, const uint8_t *chunk, size_t len) {
     struct splitter s;
     struct told t;
-    start(&s, (size_t)q->a, (uint8_t)q->b, lent_length(q->b >> 8));
-    if (told(offer(&s, q->data, q->len, &t), &t, NULL, 0)) end_split(&s);
+    start(&s, (size_t)q->a, (uint8_t)q->b, counts, lent_length(q->b >> 8));
+    if (told(offer(&s, chunk, len, &t), &t, NULL, 0)) end_split(&s);
     else end();
+}
+
+/* It took what it holds, and no more. */
+static void state(struct question *q) {
+    struct mvd_counts held = {q->a, 0, 0, 0, q->a};
+    offer_state(q, &held, q->data, q->len);
+}
+
+/* Eight bytes, the low one first. */
+static uint64_t little(const uint8_t *bytes) {
+    uint64_t n = 0;
+    for (size_t i = 8; i > 0; i--) n = n << 8 | bytes[i - 1];
+    return n;
+}
+
+/* Its counts stand before the chunk. */
+static void counted_state(struct question *q) {
+    const uint8_t *k = q->data;
+    if (q->len < COUNTS) no_case("it has not the five counts of its state");
+    struct mvd_counts given = {little(k), little(k + 8), little(k + 16), little(k + 24), little(k + 32)};
+    offer_state(q, &given, q->data + COUNTS, q->len - COUNTS);
 }
 
 /* ---- A field by number */
@@ -685,7 +732,7 @@ static const struct {
     {0x07, read_figure}, {0x08, read_figure}, {0x09, read_figure},
     {0x11, write_field}, {0x12, write_field}, {0x13, write_field}, {0x14, write_field}, {0x15, write_field}, {0x16, write_field},
     {0x17, write_field}, {0x18, write_field}, {0x3A, write_field},
-    {0x20, open_frame}, {0x21, frame_bytes}, {0x24, frame_bytes}, {0x22, split}, {0x23, state},
+    {0x20, open_frame}, {0x21, frame_bytes}, {0x24, frame_bytes}, {0x22, split}, {0x23, state}, {0x25, counted_state},
     {0x30, flight_result}, {0x31, flight_result_v1}, {0x32, club_result}, {0x33, spin_result}, {0x34, tracking_status},
     {0x35, speed_profile}, {0x36, prc_data}, {0x37, prc_point}, {0x38, club_prc}, {0x39, club_prc_point}, {0x3B, shot_text},
     {0x3C, has_failed}, {0x3D, has_failed}, {0x3E, has_failed}, {0x3F, has_failed}, {0x40, field}, {0x41, bay_log}
@@ -727,7 +774,7 @@ static void parse(const char *line, size_t digits, struct question *q) {
 int main(void) {
     static char line[HEAD + 2 * MAX_DATA + 3]; /* a digit too many, the line's end, and C's */
     static struct question q;
-    check(mvd_value_count(MVD_CUT_ESCAPE + 1) == 0 && mvd_value_count(UINT64_MAX) == 0, "a number that is no refusal's has values");
+    check(mvd_value_count(MVD_COUNTER_FULL + 1) == 0 && mvd_value_count(UINT64_MAX) == 0, "a number that is no refusal's has values");
     while (fgets(line, sizeof line, stdin) != NULL) {
         line_number++;
         parse(line, strcspn(line, "\n"), &q);

@@ -1,5 +1,7 @@
 /* The program `frames` again, in C and in C++ over the exported library: what it prints is held to the program's own output.
- * Given the word `payloads` it also copies the payload of each frame that it opened, and prints it behind the frame's line. */
+ * Given the word `all` it also copies the payload of each frame that it opened, and prints it behind the frame's line, and the
+ * splitter's counts at the end. */
+#include <inttypes.h>
 #include <stdio.h>
 #include <stdlib.h>
 #include <string.h>
@@ -9,8 +11,9 @@ struct line {
     uint8_t hold[2048];
     size_t count;
     uint8_t skipping;
+    struct mvd_counts counts;
     unsigned long long number; /* of the next event */
-    int shown;                 /* whether payloads are */
+    int shown;                 /* whether payloads and counts are */
 };
 
 static void check(int holds, const char *what) {
@@ -59,7 +62,7 @@ static void events(struct line *line, const uint8_t *chunk, size_t got) {
     struct mvd_fed fed;
     uint64_t values[3];
     for (size_t at = 0; at < got; at += (size_t)fed.taken) {
-        uint64_t refusal = mvd_feed(&line->count, &line->skipping, line->hold, sizeof line->hold,
+        uint64_t refusal = mvd_feed(&line->count, &line->skipping, &line->counts, line->hold, sizeof line->hold,
                                     chunk + at, got - at, &fed, values);
         check(refusal == MVD_OK, "a state that mvd_feed left was refused");
         const uint8_t *lies = fed.in_hold ? line->hold : chunk + at;
@@ -68,13 +71,19 @@ static void events(struct line *line, const uint8_t *chunk, size_t got) {
     }
 }
 
+static void counts(const struct mvd_counts *k) {
+    printf("taken %" PRIu64 "\ndropped %" PRIu64 "\nframed %" PRIu64 "\n", k->taken, k->dropped, k->framed);
+    printf("lost %" PRIu64 "\nheld %" PRIu64 "\n", k->lost, k->held);
+}
+
 int main(int argc, char **argv) {
     static struct line line; /* all 0 at the start */
     uint8_t chunk[100];
     size_t got;
-    line.shown = argc == 2 && strcmp(argv[1], "payloads") == 0;
-    check(argc == 1 || line.shown, "usage: frames [payloads] < CAPTURE");
+    line.shown = argc == 2 && strcmp(argv[1], "all") == 0;
+    check(argc == 1 || line.shown, "usage: frames [all] < CAPTURE");
     while ((got = fread(chunk, 1, sizeof chunk, stdin)) > 0) events(&line, chunk, got);
     printf("end %zu %d\n", line.count, line.skipping);
+    if (line.shown) counts(&line.counts);
     return 0;
 }

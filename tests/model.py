@@ -1,9 +1,13 @@
 #!/usr/bin/env python3
 """What `frames` prints, written from document 01 and the later requests alone.
-usage: tests/model.py [payloads] < CAPTURE    (with that word, each frame's payload behind its line)"""
+usage: tests/model.py [all] < CAPTURE    (with that word, each frame's payload behind its line, and the counts at the end)
+       tests/model.py counts < CAPTURE   (request 6's five counts alone)
+       tests/model.py splits < LIST      (the answers to a list's cases of the splitter, docs/CASES.md, each behind its line's number)"""
 import sys
 
 HOLD = 2048
+LARGEST = 2 ** 64 - 1
+COUNTS = ("taken", "dropped", "framed", "lost", "held")
 ADDRESSES = (0x10, 0x12, 0x30, 0x40)
 CODES = {1: 0xF0, 2: 0xF1, 3: 0xFD, 4: 0xFA}
 ESCAPES = {byte: code for code, byte in CODES.items()}
@@ -29,6 +33,70 @@ def split(stream):
         frames.append(stream[at:end + 1])
         at = stream.find(0xF0, end + 1)
     return frames, b""
+
+
+class Splitter:
+    """Request 6: a state and its counts, a byte at a time. `held` are the open frame's bytes, none where it is skipped."""
+
+    def __init__(self, hold, held=b"", skipping=0, counts=(0, 0, 0, 0, 0)):
+        self.hold, self.held, self.skipping, self.frames = hold, held, skipping, []
+        self.taken, self.dropped, self.framed, self.lost, self.still = counts
+
+    def counts(self):
+        return self.taken, self.dropped, self.framed, self.lost, self.still
+
+    def refusal(self, chunk):
+        bad = len(self.held) > self.hold or self.skipping > 1 or (self.skipping and self.held)
+        if bad or self.taken != self.dropped + self.framed + self.lost + self.still or self.still != len(self.held):
+            return 9
+        return 13 if self.taken + len(chunk) > LARGEST else 0
+
+    def feed(self, chunk):
+        for byte in chunk:
+            self.taken += 1
+            if byte != 0xF0 and not self.held and not self.skipping:
+                self.dropped += 1
+            else:
+                self.add(byte)
+        self.still = len(self.held)
+
+    def add(self, byte):
+        """One byte more of a frame, which may outgrow the hold buffer with it, or end."""
+        self.held += bytes([byte])
+        if self.skipping or len(self.held) > self.hold:
+            self.lost += len(self.held)
+            self.held, self.skipping = b"", 1
+        if byte == 0xF1:
+            self.frames.append(None if self.skipping else self.held)
+            self.framed += len(self.held)
+            self.held, self.skipping = b"", 0
+
+
+def tally(stream):
+    """The five counts at the end of a stream, one a line."""
+    splitter = Splitter(HOLD)
+    splitter.feed(stream)
+    return "".join(f"{name} {n}\n" for name, n in zip(COUNTS, splitter.counts()))
+
+
+def asked(case):
+    """The answer to a splitter's case: a stream to a fresh one, or a chunk to a state, whose counts may stand before it."""
+    a, b, given = int.from_bytes(case[1:9], "big"), int.from_bytes(case[9:17], "big"), case[17:]
+    if case[0] == 0x22:
+        splitter, chunk = Splitter(a), given
+    else:
+        numbers, chunk = (a, 0, 0, 0, a), given
+        if case[0] == 0x25:
+            numbers, chunk = [int.from_bytes(given[i:i + 8], "little") for i in range(0, 40, 8)], given[40:]
+        if a > b >> 8:  # which may be far more than there are bytes for
+            return "9 :"
+        splitter = Splitter(b >> 8, b"\xA5" * a, b % 256, numbers)
+    if refusal := splitter.refusal(chunk):
+        return f"{refusal} :"
+    splitter.feed(chunk)
+    lengths = [-1 if frame is None else len(frame) for frame in splitter.frames]
+    shown = b"".join(frame or b"" for frame in splitter.frames) + splitter.held
+    return " ".join(map(str, [0, *lengths, len(splitter.held), splitter.skipping, *splitter.counts()])) + f" :{shown.hex()}"
 
 
 def unstuff(inner):
@@ -92,7 +160,23 @@ def frames(stream, hold=HOLD, shown=False):
     return "".join(text + "\n" for text in [*(line(n, w, hold, shown) for n, w in enumerate(wires)), end])
 
 
+def splits(lines):
+    """Each case of the splitter with its number in the list, and its answer."""
+    for number, text in enumerate(lines, 1):
+        case = bytes.fromhex(text)
+        if case[0] in (0x22, 0x23, 0x25):
+            yield f"{number} {asked(case)}\n"
+
+
+PRINTED = {
+    (): frames,
+    ("all",): lambda given: frames(given, shown=True) + tally(given),
+    ("counts",): tally,
+    ("splits",): lambda given: "".join(splits(given.decode().split())),
+}
+
 if __name__ == "__main__":
-    if sys.argv[1:] not in ([], ["payloads"]):
+    words = tuple(sys.argv[1:])
+    if words not in PRINTED:
         sys.exit(__doc__)
-    sys.stdout.write(frames(sys.stdin.buffer.read(), shown=len(sys.argv) > 1))
+    sys.stdout.write(PRINTED[words](sys.stdin.buffer.read()))
