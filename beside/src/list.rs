@@ -2,7 +2,7 @@
 //! the port's. Made anew it is the same, byte for byte.
 use crate::answer::Case;
 use crate::cases::{self, Random};
-use crate::{ops, wanted};
+use crate::{counted, ops, wanted};
 use std::{fs, io};
 
 const SEED: u64 = 1;
@@ -167,12 +167,65 @@ fn failed() -> Vec<Case> {
     list
 }
 
+/// Request 6: counts that balance, and go on; each off by one; held beside another count; sums that balance in 64 bits alone.
+fn balances() -> Vec<Case> {
+    let chunk = [0x07, 0xF1, 0x09, 0xF0, 0x08];
+    let sound = [20, 3, 10, 5, 2];
+    let mut list = [3, 4].map(|hold| counted::state(2, hold, 0, sound, &chunk)).to_vec();
+    for k in 0..5 {
+        list.extend([sound[k] - 1, sound[k] + 1].map(|n| {
+            let mut counts = sound;
+            counts[k] = n;
+            counted::state(2, 4, 0, counts, &chunk)
+        }));
+    }
+    for (count, counts) in [(1, sound), (3, sound), (2, [20, 4, 10, 5, 1]), (2, [20, 5, 10, 5, 0]), (0, [2, 0, 0, 0, 2])] {
+        list.push(counted::state(count, 4, 0, counts, &chunk));
+    }
+    let (half, most) = (1 << 63, u64::MAX);
+    for counts in [[0, half, 0, half, 0], [1, half, half, 1, 0], [19, most, 20, 0, 0], [0, 0, 1, most, 0], [most, most, most, 1, 0]] {
+        list.extend([&[][..], &chunk].map(|chunk| counted::state(0, 4, 0, counts, chunk)));
+    }
+    // a mark needs nothing lost
+    for counts in [[0; 5], [7, 3, 4, 0, 0], [7, 0, 0, 7, 0]] {
+        list.extend([&[][..], &chunk].map(|chunk| counted::state(0, 4, 1, counts, chunk)));
+    }
+    list
+}
+
+/// Request 6: what can be counted just so, and what passes the largest number by one; a bad state is told before that.
+fn nearly_full() -> Vec<Case> {
+    let (chunk, most) = ([0xF0, 0x07, 0x08, 0x09, 0xF1], u64::MAX);
+    let mut list = Vec::new();
+    for taken in [most - 6, most - 5, most - 4, most] {
+        for counts in [[taken, taken, 0, 0, 0], [taken, 0, taken, 0, 0], [taken, 0, 0, taken, 0]] {
+            list.extend([4, 5].map(|hold| counted::state(0, hold, 0, counts, &chunk)));
+        }
+        list.push(counted::state(2, 7, 0, [taken, 1, 2, taken - 5, 2], &chunk));
+        list.push(counted::state(0, 7, 1, [taken, 1, 2, taken - 3, 0], &chunk));
+    }
+    for counts in [[most, most, 0, 0, 0], [most - 1, 0, most - 1, 0, 0]] {
+        list.extend([&[][..], &chunk[..1], &chunk[1..2]].map(|chunk| counted::state(0, 4, 0, counts, chunk)));
+    }
+    for (count, mark, counts) in [
+        (0, 0, [most, most - 1, 0, 0, 0]),
+        (0, 0, [most, most, 0, 1, 0]),
+        (0, 2, [most, most, 0, 0, 0]),
+        (1, 1, [most, most - 1, 0, 0, 1]),
+        (5, 0, [most, most - 5, 0, 0, 5]),
+        (0, 0, [most, most - 1, 0, 0, 1]),
+    ] {
+        list.push(counted::state(count, 4, mark, counts, &chunk));
+    }
+    list
+}
+
 /// What the program has room for: bytes, and the buffer that a case lends.
 fn fits(c: &Case) -> bool {
     let lent = match c.op {
         ops::COPY_PAYLOAD | ops::SPLIT => c.a,
         ops::ENCODE | ops::BAY_LOG => c.b,
-        ops::STATE => c.b >> 8,
+        ops::STATE | ops::COUNTED => c.b >> 8,
         ops::SPEED_PROFILE => c.a * 16,
         _ => 0,
     };
@@ -199,6 +252,8 @@ pub fn write(dir: &str) -> io::Result<()> {
     list.extend(limits(&mut r));
     list.extend(shown());
     list.extend(failed());
+    list.extend(balances());
+    list.extend(nearly_full());
     list.extend(sampled(&mut r));
     while list.len() < CASES {
         let c = cases::random(&mut r);

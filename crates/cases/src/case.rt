@@ -26,6 +26,9 @@ pub(crate) fn first_fault(hex: &[u8]) -> Fault {
     if !is_operation(op) {
         return Fault::Operation;
     }
+    if op == 0x25 && hex.len() < 114 {
+        return Fault::Length;
+    }
     if is_lent(op, number(&head, 1), number(&head, 9)) {
         Fault::None
     } else {
@@ -52,6 +55,16 @@ pub(crate) fn number(head: &[u8], at: usize) -> u64 {
     let high = integer::uint32_at(head, at);
     let low = integer::uint32_at(head, std::num::wrapping_add_usize(at, 4));
     (high as u64) << 32 | low as u64
+}
+
+// The number of eight bytes at a place, the low one first.
+pub(crate) fn little(data: &[u8], at: usize) -> u64 {
+    let mut n = 0;
+    for i in 0..8 {
+        let byte = integer::byte_at(data, std::num::wrapping_add_usize(at, i));
+        n = n >> 8 | (byte as u64) << 56;
+    }
+    n
 }
 
 // A float by its bits; a NaN is any NaN.
@@ -96,7 +109,7 @@ pub(crate) fn unhex(hex: &[u8], from: usize, out: &mut [u8]) -> usize {
 
 fn is_operation(op: u8) -> bool {
     match op {
-        0x01..=0x09 | 0x11..=0x18 | 0x20..=0x24 | 0x30..=0x41 => true,
+        0x01..=0x09 | 0x11..=0x18 | 0x20..=0x25 | 0x30..=0x41 => true,
         _ => false,
     }
 }
@@ -106,7 +119,7 @@ fn is_lent(op: u8, a: u64, b: u64) -> bool {
     match op {
         0x22 | 0x24 => a <= 1024,
         0x21 | 0x41 => b <= 1024,
-        0x23 => b >> 8 <= 1024,
+        0x23 | 0x25 => b >> 8 <= 1024,
         0x35 => a <= 64,
         _ => true,
     }

@@ -1,7 +1,8 @@
-// Frames and the splitter: the operations 20 (open), 21 (encode), 22 (split), 23 (a state) and 24 (copy_payload).
+// Frames and the splitter: the operations 20 (open), 21 (encode), 22 (split), 23 (a state), 24 (copy_payload) and 25 (a state with its counts).
 // The case's numbers are the lent buffer's length, DEST, SRC and TYPE, H, and the sizes of the chunks offered in turn.
 use crate::case::cut;
 use crate::case::lent;
+use crate::case::little;
 use crate::case::number;
 use crate::case::within;
 use crate::say;
@@ -54,6 +55,7 @@ pub(crate) fn split(head: &[u8], stream: &[u8], out: &mut [u8]) -> usize {
     let fresh = Splitter {
         count: 0,
         skipping: 0,
+        counts: [0; 5],
         at: 0,
         told: 0,
         to: 0,
@@ -61,17 +63,36 @@ pub(crate) fn split(head: &[u8], stream: &[u8], out: &mut [u8]) -> usize {
     both(fresh, number(head, 1) as usize, sizes, stream, out)
 }
 
-// A chunk, at once, to a state that the case gives: the mark is the second number's low byte, H the rest of it.
+// A chunk, at once, to a state that the case gives, which took what it holds and no more.
 pub(crate) fn state(head: &[u8], chunk: &[u8], out: &mut [u8]) -> usize {
-    let given = Splitter {
+    let held = number(head, 1);
+    given(head, [held, 0, 0, 0, held], chunk, out)
+}
+
+// A chunk, at once, to a state whose counts stand before it.
+pub(crate) fn counted_state(head: &[u8], data: &[u8], out: &mut [u8]) -> usize {
+    let counts = [
+        little(data, 0),
+        little(data, 8),
+        little(data, 16),
+        little(data, 24),
+        little(data, 32),
+    ];
+    given(head, counts, cut(data, 40, data.len()), out)
+}
+
+// The mark is the second number's low byte, H the rest of it.
+fn given(head: &[u8], counts: [u64; 5], chunk: &[u8], out: &mut [u8]) -> usize {
+    let start = Splitter {
         count: number(head, 1) as usize,
         skipping: integer::byte_at(head, 16),
+        counts,
         at: 0,
         told: 0,
         to: 0,
     };
     both(
-        given,
+        start,
         (number(head, 9) >> 8) as usize,
         0xFFFF_FFFF_FFFF_FFFF,
         chunk,
@@ -83,6 +104,7 @@ pub(crate) fn state(head: &[u8], chunk: &[u8], out: &mut [u8]) -> usize {
 struct Splitter {
     count: usize,
     skipping: u8,
+    counts: [u64; 5],
     at: usize,
     told: u64,
     to: usize,
@@ -102,9 +124,23 @@ fn lengths(start: Splitter, h: usize, sizes: u64, stream: &[u8], out: &mut [u8])
     let n = within(h, &room);
     let at = say::decimal(0, out, 0);
     let end = offer(moved(start, at), sizes, stream, &mut room[..n], false, out);
+    moved(end, ending(end, out))
+}
+
+// The state at the end of the stream.
+fn ending(end: Splitter, out: &mut [u8]) -> usize {
+    let counts = end.counts;
     let at = say::whole(end.count as u64, out, end.to);
     let at = say::whole(end.skipping as u64, out, at);
-    moved(end, at)
+    tallies(counts, out, at)
+}
+
+fn tallies(counts: [u64; 5], out: &mut [u8], at: usize) -> usize {
+    let at = say::whole(counts[0], out, at);
+    let at = say::whole(counts[1], out, at);
+    let at = say::whole(counts[2], out, at);
+    let at = say::whole(counts[3], out, at);
+    say::whole(counts[4], out, at)
 }
 
 fn contents(
@@ -126,9 +162,11 @@ fn contents(
 
 // The same state, with another place in the answer line.
 fn moved(state: Splitter, to: usize) -> Splitter {
+    let counts = state.counts;
     Splitter {
         count: state.count,
         skipping: state.skipping,
+        counts,
         at: state.at,
         told: state.told,
         to,
@@ -176,12 +214,14 @@ fn feed(
 ) -> Splitter {
     let mut count = state.count;
     let mut skipping = state.skipping;
+    let mut counts = state.counts;
     let mut fed = [0u64; 5];
     let mut values = [0u64; 3];
     let chunk = cut(stream, state.at, end);
     let told = abi_splitter::mvd_feed(
         &mut count,
         &mut skipping,
+        &mut counts,
         hold,
         chunk,
         &mut fed,
@@ -191,6 +231,7 @@ fn feed(
     Splitter {
         count,
         skipping,
+        counts,
         at: std::num::wrapping_add_usize(state.at, fed[1] as usize),
         told,
         to,

@@ -106,7 +106,7 @@ fn answered(number: u64, hex: &[u8], out: &mut [u8]) -> bool {
             program::wrong(
                 b"cases",
                 number,
-                b"not a case: 34 hex digits, then two for each byte",
+                b"not a case: 34 hex digits, then two for each byte; of operation 25 at least 40 bytes",
             );
             return false;
         }
@@ -161,6 +161,7 @@ fn ask(head: &[u8], data: &[u8], out: &mut [u8]) -> usize {
         0x22 => frames::split(head, data, out),
         0x23 => frames::state(head, data, out),
         0x24 => frames::copy_payload(a, data, out),
+        0x25 => frames::counted_state(head, data, out),
         0x40 => messages::field(head, a, data, out),
         0x41 => messages::bay_log(head, b, data, out),
         _ => messages::ask(op, a, data, out),
