@@ -1,5 +1,6 @@
 //! Request 6: the five counts of a line, reckoned from the Rust's frames and by a walk of its own, and the states that are refused.
 //! The Rust counts nothing; it is fed the whole line at once, however the port's is cut.
+use crate::ops::State;
 use ironsight::frame::FrameSplitter;
 
 /// Bytes taken, dropped, framed, lost and held, in this order everywhere.
@@ -35,15 +36,16 @@ pub fn balance(counts: Counts) -> bool {
     taken == others.iter().sum()
 }
 
-/// The refusal of a state that is offered so many bytes: 9, then 13.
-pub fn refusal(count: u64, mark: u8, counts: Counts, hold: u64, offered: usize) -> Option<u64> {
-    let marked = match mark {
-        0 => count <= hold,
-        1 => count == 0,
+/// The refusal of a state, with the chunk that it is offered: 9, then 13.
+pub fn refusal(s: &State) -> Option<u64> {
+    let held = match s.mark {
+        0 => s.count <= s.hold,
+        1 => s.count == 0,
         _ => false,
     };
-    if !(marked && balance(counts) && counts[4] == count) {
+    if !(held && balance(s.counts) && s.counts[4] == s.count) {
         return Some(9);
     }
-    (u128::from(counts[0]) + offered as u128 > u128::from(u64::MAX)).then_some(13)
+    let taken = u128::from(s.counts[0]) + s.chunk.len() as u128;
+    (taken > u128::from(u64::MAX)).then_some(13)
 }

@@ -145,16 +145,16 @@ impl<'a> Offered<'a> {
             let chunks = sizes(c.b, c.data.len()).into_iter().map(&mut next).collect();
             return Ok(Self { hold: c.a as usize, counts: [0; 5], open: Vec::new(), chunks });
         }
-        let State { count, hold, mark, counts, chunk } = State::of(c);
-        if let Some(number) = noise::refusal(count, mark, counts, hold, chunk.len()) {
+        let s = State::of(c);
+        if let Some(number) = noise::refusal(&s) {
             return Err(number);
         }
-        let len = if mark == 0 { count } else { hold + 1 };
+        let len = if s.mark == 0 { s.count } else { s.hold + 1 };
         let mut open = vec![UNTOUCHED; len as usize];
         if let Some(first) = open.first_mut() {
             *first = 0xF0;
         }
-        Ok(Self { hold: hold as usize, counts, open, chunks: vec![chunk] })
+        Ok(Self { hold: s.hold as usize, counts: s.counts, open, chunks: vec![s.chunk] })
     }
 
     /// The refusal, or what a side that is fed the frames answers.
