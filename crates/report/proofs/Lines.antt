@@ -1,5 +1,5 @@
 -- A whole line: refused where it does not fit, else put at the buffer's front.
--- Then the parts of each of the three lines, in the order in which they are put, and how long they are together.
+-- Then the parts of each line, in the order in which they are put, and how long they are together.
 use Prim.Native.Nat.{ℕ, _+_, _<_, _≤_}
 use mathlib.Core.Path.{_≡_, refl, sym, ap, _∙_}
 use mathlib.Core.Bool.{Bool, true, false, cond}
@@ -9,8 +9,9 @@ use lib.Dec.{lit<}
 use lib.ListN.{length, set, length-append}
 use borrow.Author.Tests.{le-leb, lt-leb}
 use Rattle.error.specs.Refusal.{Told, yes, no}
+use Rattle.report.specs.declared.Count.{Count}
 use Rattle.report.specs.Text.{decimalOf, hexOf}
-use Rattle.report.specs.Line.{spaced, fitted, frameText, longText, endText, Lined, resultWords}
+use Rattle.report.specs.Line.{spaced, fitted, frameText, longText, endText, nameOf, countText, Lined, resultWords}
 use Rattle.report.specs.Private.{Put}
 use Rattle.frame.specs.declared.RawFrame.{RawFrame}
 use Rattle.report.proofs.Decimal.{length-small}
@@ -69,6 +70,16 @@ mark-length false = sym (length-small 0 (lit< tt))
 
 pub end-length : (k : ℕ) (mark : Bool) → length (decimalOf k) + 7 ≡ length (endText k mark)
 end-length k mark = rw (← end-parts k mark) (simp length-append (omega (arith, mark-length mark)))
+
+abbrev pub countFront : Count → ℕ → List ℕ
+countFront which n = nameOf which ++ (0x20 ∷ decimalOf n)
+
+pub count-parts : (which : Count) (n : ℕ) → countFront which n ++ (0x0A ∷ []) ≡ countText which n
+unfolding countText
+count-parts which n = simp (append-assoc, append-nil)
+
+pub count-length : (which : Count) (n : ℕ) → length (nameOf which) + length (decimalOf n) + 2 ≡ length (countText which n)
+count-length which n = rw (← count-parts which n) (simp length-append (omega arith))
 
 -- how long the words are that say what opening a frame said
 pub ok-width : (f : RawFrame) → length (decimalOf (f .len)) + 13 ≡ length (spaced (resultWords (yes f)))

@@ -10,6 +10,7 @@ use Rattle.report.specs.Line.{Lined}
 use Rattle.report.proofs.frame_line.Reads as frame-line
 use Rattle.report.proofs.long_line.Reads as long-line
 use Rattle.report.proofs.end_line.Reads as end-line
+use Rattle.report.proofs.count_line.Reads as count-line
 
 one-line : {text old : List ℕ} {r s : ResultUsize} {new new′ : List ℕ}
     → Lined text old (toldUsize r) new → Lined text old (toldUsize s) new′ → (r ≡ s) × (new ≡ new′)
@@ -24,3 +25,6 @@ one-long-line κs a r s x y = one-line
 
 pub one-end-line : (κs a r s x y : _) → end-line.Post κs a r x → end-line.Post κs a s y → (r ≡ s) × (x .1 .1 .0 .now ≡ y .1 .1 .0 .now)
 one-end-line κs a r s x y = one-line
+
+pub one-count-line : (κs a r s x y : _) → count-line.Post κs a r x → count-line.Post κs a s y → (r ≡ s) × (x .1 .1 .0 .now ≡ y .1 .1 .0 .now)
+one-count-line κs a r s x y = one-line

@@ -1,5 +1,6 @@
 // The text line of each event, as bytes at the front of a lent buffer: document 01's lines, whole.
 // A line that does not fit is refused with 8, and nothing is written.
+mod counts;
 mod number;
 mod place;
 mod words;
@@ -8,7 +9,9 @@ ghost use mathlib.Core.Path.{_≡_};
 ghost use mathlib.Core.Bool.{cond};
 ghost use Rattle.error.specs.Result.{toldUsize};
 ghost use Rattle.frame.specs.Rule.{toldRawFrame};
-ghost use Rattle.report.specs.Line.{frameText, longText, endText, Lined};
+ghost use Rattle.report.specs.Line.{frameText, longText, endText, countText, Lined};
+use crate::counts::name_width;
+use crate::counts::put_name;
 use crate::number::digits;
 use crate::number::put_decimal;
 use crate::place::put_number;
@@ -65,6 +68,31 @@ pub fn end_line(count: usize, skipping: bool, out: &mut [u8]) -> ResultUsize
     let at = put_text(b"end", out, 0);
     let at = put_number(count as u64, count_width, out, at);
     let at = put_number(bit(skipping), 1, out, at);
+    out[at] = b'\n';
+    ResultUsize::Ok(need)
+}
+
+// One of the splitter's five counts.
+pub enum Count {
+    Taken,
+    Dropped,
+    Framed,
+    Lost,
+    Held,
+}
+
+// The line of a count: its name and the number, as `taken N`.
+pub fn count_line(which: Count, n: u64, out: &mut [u8]) -> ResultUsize
+    ensures { λ r. ⌜ Lined (countText which n) (now (out .entry)) (toldUsize r) (now (out .exit)) ⌝ }
+{
+    let width = digits(n);
+    let need = name_width(which) + width + 2;
+    let got = out.len();
+    if got < need {
+        return ResultUsize::Err(WireError::NoRoom { need, got });
+    }
+    let at = put_name(which, out);
+    let at = put_number(n, width, out, at);
     out[at] = b'\n';
     ResultUsize::Ok(need)
 }
