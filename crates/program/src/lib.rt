@@ -61,6 +61,9 @@ fn fail(name: &[u8], what: &[u8]) {
     os::fail(what);
 }
 
-fn tell(text: &[u8]) {
+// A text to standard error.
+pub fn tell(text: &[u8])
+    ensures { λ r. ⌜ r ≡ tt ⌝ }
+{
     io::write_all(libc::STDERR_FILENO, text);
 }
