@@ -1,10 +1,10 @@
 #!/usr/bin/env python3
-"""Writes the sample captures, what `frames` and `frames_run` are run on, and beside each what document 01 says is printed for it."""
+"""Writes the sample captures, what `frames`, `frames_run` and `noise` are run on, and beside each what the client's documents say is printed for it."""
 import pathlib
 import sys
 
 sys.dont_write_bytecode = True
-from model import encode, frames
+from model import HOLD, encode, frames, split
 
 ROOT = pathlib.Path(__file__).resolve().parent.parent
 APP, DSP = 0x10, 0x40
@@ -75,13 +75,27 @@ def small():
     return "".join(2 * frames(stream, hold) for hold, stream in streams)
 
 
+def noise(stream):
+    """What `noise` prints: how many bytes were taken, stood outside frames, in frames that fit the hold buffer, in longer ones, and are held."""
+    wires, rest = split(stream)
+    is_open, dropped = False, 0
+    for byte in stream:
+        dropped += not is_open and byte != 0xF0
+        is_open = byte != 0xF1 if is_open else byte == 0xF0
+    framed = sum(len(wire) for wire in wires if len(wire) <= HOLD)
+    lost = sum(len(wire) for wire in [*wires, rest] if len(wire) > HOLD)
+    held = len(rest) if len(rest) <= HOLD else 0
+    return f"taken {len(stream)}\ndropped {dropped}\nframed {framed}\nlost {lost}\nheld {held}\n"
+
+
 def main():
     for name, stream in [("samples/shot", shot()), ("samples/noise", noisy())]:
         (ROOT / f"{name}.bin").write_bytes(stream)
         (ROOT / f"{name}.txt").write_text(frames(stream))
-    for name, stream, before in [("frames", EXAMPLE, ""), ("frames_run", long(), small())]:
+    counted = long() + b"\xF1\x13" + early()[:12]    # the last one is closed after all, and another is left open
+    for name, stream, printed in [("frames", EXAMPLE, frames(EXAMPLE)), ("frames_run", long(), small() + frames(long())), ("noise", counted, noise(counted))]:
         (ROOT / f"crates/{name}/stdin").write_bytes(stream)
-        (ROOT / f"crates/{name}/stdout").write_text(before + frames(stream))
+        (ROOT / f"crates/{name}/stdout").write_text(printed)
 
 
 main()
