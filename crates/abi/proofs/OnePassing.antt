@@ -30,19 +30,6 @@ module _ {olds : List ℕ} {k l : ℕ} {vs ws : List ℕ} where
       let e = one-passing p q in
       (e .0, ap (λ (u : A × B × C). u .0) (e .1), ap (λ (u : A × B × C). u .1) (e .1), ap (λ (u : A × B × C). u .2) (e .1), e .2)
 
-  -- four places
-  pub one-passing-four : {A B C D : Type 0} {t : Told (A × B × C × D)} {old v w : A × B × C × D} → Passed t old olds k v vs → Passed t old olds l w ws
-      → (k ≡ l) × (v .0 ≡ w .0) × (v .1 ≡ w .1) × (v .2 ≡ w .2) × (v .3 ≡ w .3) × (vs ≡ ws)
-  one-passing-four {A} {B} {C} {D} p q =
-      let e = one-passing p q in (
-        e .0,
-        ap (λ (u : A × B × C × D). u .0) (e .1),
-        ap (λ (u : A × B × C × D). u .1) (e .1),
-        ap (λ (u : A × B × C × D). u .2) (e .1),
-        ap (λ (u : A × B × C × D). u .3) (e .1),
-        e .2,
-      )
-
   -- no place, and a buffer
   pub one-stored : {t : Told Unit} {b c d : List ℕ} → Passed t tt olds k tt vs × (b ≡ d) → Passed t tt olds l tt ws × (c ≡ d)
       → (k ≡ l) × (b ≡ c) × (vs ≡ ws)

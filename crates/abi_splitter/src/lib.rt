@@ -1,8 +1,8 @@
-// The splitter for C: its state lies in three lent places, and `feed` answers five words.
+// The splitter for C: its state lies in seven lent words, all 0 at the start, and `feed` answers five words.
 // What the call tells, and every lent place, is the rule of `FrameSplitter::feed`; a mark that is neither 0 nor 1 is a bad state.
 ghost use mathlib.Core.Path.{_≡_};
-ghost use Rattle.abi.specs.Answer.{flagOf, Passed};
-ghost use Rattle.abi_splitter.specs.Fed.{countsOf, wordsOf, feedFrom, leftBy};
+ghost use Rattle.abi.specs.Answer.{Passed};
+ghost use Rattle.abi_splitter.specs.Fed.{stateOf, wordsOf, feedFrom, leftBy};
 use abi::flag;
 use abi::tell;
 use error::WireError;
@@ -12,32 +12,23 @@ use splitter::FrameSplitter;
 
 #[no_mangle]
 pub extern "C" fn mvd_feed(
-    count: &mut usize,
-    skipping: &mut u8,
-    counts: &mut [u64; 5],
+    splitter: &mut [u64; 7],
     hold: &mut [u8],
     chunk: &[u8],
     fed: &mut [u64; 5],
     values: &mut [u64; 3],
 ) -> u64
-    ensures reply { λ k. ⌜ Passed
-        (leftBy (feedFrom (now (count .entry)) (now (skipping .entry)) (now (counts .entry)) (now (hold .entry)) (now (chunk .entry))))
-        (now (count .entry), now (skipping .entry), now (counts .entry), now (fed .entry)) (now (values .entry))
-        k (now (count .exit), now (skipping .exit), now (counts .exit), now (fed .exit)) (now (values .exit)) ⌝ }
-    ensures bytes { λ k. ⌜ now (hold .exit)
-        ≡ feedFrom (now (count .entry)) (now (skipping .entry)) (now (counts .entry)) (now (hold .entry)) (now (chunk .entry)) .hold ⌝ }
+    ensures reply { λ k. ⌜ Passed (leftBy (feedFrom (now (splitter .entry)) (now (hold .entry)) (now (chunk .entry))))
+        (now (splitter .entry), now (fed .entry)) (now (values .entry))
+        k (now (splitter .exit), now (fed .exit)) (now (values .exit)) ⌝ }
+    ensures bytes { λ k. ⌜ now (hold .exit) ≡ feedFrom (now (splitter .entry)) (now (hold .entry)) (now (chunk .entry)) .hold ⌝ }
 {
-    if 1 < *skipping {
+    if 1 < splitter[1] {
         return tell(WireError::BadState, values);
     }
-    let state = FrameSplitter {
-        count: *count,
-        skipping: *skipping == 1,
-        counts: counts_of(counts),
-    };
+    let state = state_of(splitter);
     let r = state.feed(hold, chunk);
     let event = r.event;
-    let next = r.splitter;
     let taken = r.taken as u64;
     match event {
         Event::More => *fed = [0, taken, 0, 0, 0],
@@ -53,30 +44,39 @@ pub extern "C" fn mvd_feed(
         Event::Overlong => *fed = [2, taken, 0, 0, 0],
         Event::Err(e) => return tell(e, values),
     }
-    keep(next, count, skipping, counts);
+    *splitter = words_of(r.splitter);
     0
 }
 
-// The five counts, as a splitter has them.
-fn counts_of(words: &[u64; 5]) -> Counts
-    ensures { λ r. ⌜ r ≡ countsOf (now (words .entry)) ⌝ }
+// The seven words as a state.
+fn state_of(words: &[u64; 7]) -> FrameSplitter
+    ensures { λ r. ⌜ r ≡ stateOf (now (words .entry)) ⌝ }
 {
-    Counts {
-        taken: words[0],
-        dropped: words[1],
-        framed: words[2],
-        lost: words[3],
-        held: words[4],
+    FrameSplitter {
+        count: words[0] as usize,
+        skipping: words[1] == 1,
+        counts: Counts {
+            taken: words[2],
+            dropped: words[3],
+            framed: words[4],
+            lost: words[5],
+            held: words[6],
+        },
     }
 }
 
-// The next state in its three lent places.
-fn keep(next: FrameSplitter, count: &mut usize, skipping: &mut u8, counts: &mut [u64; 5])
-    ensures { λ r. ⌜ (now (count .exit) ≡ next .count) × (now (skipping .exit) ≡ flagOf (next .skipping))
-        × (now (counts .exit) ≡ wordsOf (next .counts)) ⌝ }
+// A state as the seven words.
+fn words_of(s: FrameSplitter) -> [u64; 7]
+    ensures { λ r. ⌜ r ≡ wordsOf s ⌝ }
 {
-    let k = next.counts;
-    *count = next.count;
-    *skipping = flag(next.skipping);
-    *counts = [k.taken, k.dropped, k.framed, k.lost, k.held];
+    let k = s.counts;
+    [
+        s.count as u64,
+        flag(s.skipping) as u64,
+        k.taken,
+        k.dropped,
+        k.framed,
+        k.lost,
+        k.held,
+    ]
 }
