@@ -4,7 +4,7 @@ import pathlib
 import sys
 
 sys.dont_write_bytecode = True
-from model import HOLD, encode, frames, split
+from model import encode, frames, tally
 
 ROOT = pathlib.Path(__file__).resolve().parent.parent
 APP, DSP = 0x10, 0x40
@@ -75,25 +75,12 @@ def small():
     return "".join(2 * frames(stream, hold) for hold, stream in streams)
 
 
-def noise(stream):
-    """What `noise` prints: how many bytes were taken, stood outside frames, in frames that fit the hold buffer, in longer ones, and are held."""
-    wires, rest = split(stream)
-    is_open, dropped = False, 0
-    for byte in stream:
-        dropped += not is_open and byte != 0xF0
-        is_open = byte != 0xF1 if is_open else byte == 0xF0
-    framed = sum(len(wire) for wire in wires if len(wire) <= HOLD)
-    lost = sum(len(wire) for wire in [*wires, rest] if len(wire) > HOLD)
-    held = len(rest) if len(rest) <= HOLD else 0
-    return f"taken {len(stream)}\ndropped {dropped}\nframed {framed}\nlost {lost}\nheld {held}\n"
-
-
 def main():
     for name, stream in [("samples/shot", shot()), ("samples/noise", noisy())]:
         (ROOT / f"{name}.bin").write_bytes(stream)
         (ROOT / f"{name}.txt").write_text(frames(stream))
     counted = long() + b"\xF1\x13" + early()[:12]    # the last one is closed after all, and another is left open
-    for name, stream, printed in [("frames", EXAMPLE, frames(EXAMPLE)), ("frames_run", long(), small() + frames(long())), ("noise", counted, noise(counted))]:
+    for name, stream, printed in [("frames", EXAMPLE, frames(EXAMPLE)), ("frames_run", long(), small() + frames(long())), ("noise", counted, tally(counted))]:
         (ROOT / f"crates/{name}/stdin").write_bytes(stream)
         (ROOT / f"crates/{name}/stdout").write_text(printed)
 
