@@ -1,5 +1,5 @@
 -- What the program `noise` prints are the five counts of the bytes that it read, by what request 6 means by each, however they are cut.
--- `prints` says which lines, `any-cut` that two cuttings print the same; both of any run that the contracts allow.
+-- `prints` says which lines, `prints-none` when there are none, `any-cut` that two cuttings print the same: of any run that the contracts allow.
 use Prim.Native.Nat.{ℕ, zero, suc, _+_, _-_, _^_, _<_, _≤_}
 use mathlib.Core.Path.{_≡_, refl, sym, ap, _∙_, subst}
 use mathlib.Core.Bool.{false}
@@ -17,7 +17,7 @@ use Rattle.stream.specs.Stream.{Call, Calls, Feeds, joined}
 use Rattle.stream.specs.Stream as stream
 use Rattle.stream.specs.Noise.{countsOver}
 use Rattle.stream.proofs.Ends.{good-call, feed-moves, allowed, feeds-calls}
-use Rattle.stream.proofs.Noise.{counts-are}
+use Rattle.stream.proofs.Noise.{counts-are, line-below}
 use Rattle.session.proofs.Printed.{line-shown}
 use Rattle.line_noise.specs.Piece.{Between, between, offered, afterOffer, wholly, Outcome, takeRule, outcomeOf}
 use Rattle.line_noise.specs.Program.{first, Pieces, Shown, inOrder, textOver, noiseText, Lines, Run}
@@ -116,6 +116,11 @@ prints l (program.Run.stopped {cs = cs} {t = t} {k = k} {vs = vs} c rest r h p e
     let free = not-refused p c (omega (arith, joined-length cs c rest)) in
     let z : no k vs ≡ yes tt = sym refused ∙ ap (λ (o : Outcome). o .reply) (e ∙ sym (take-free t c (still-good p) free)) in
     cc
+
+-- of a longer one nothing is printed: some piece of it is refused
+pub prints-none : {h : List ℕ} {cs : List (List ℕ)} {printed : List ℕ} → 2 ^ 64 ≤ length (joined cs) → Run h cs printed → printed ≡ []
+prints-none l (program.Run.whole p lines) = absurd (let x : ⊥ = omega (arith, line-below (feeds-calls (traces p .feeds))) in x)
+prints-none l (program.Run.stopped c rest r h p e refused) = refl
 
 -- pieces of one stream, cut in two ways, with hold buffers of equal lengths, whatever they hold
 pub any-cut : {h h′ : List ℕ} {cs cs′ : List (List ℕ)} {printed printed′ : List ℕ} → length h ≡ length h′ → joined cs ≡ joined cs′

@@ -20,7 +20,7 @@ fn count_all() {
     let read = read_all(&mut hold, &mut piece);
     if read.is_whole {
         let splitter = read.splitter;
-        print_all(splitter.counts);
+        print_counts(splitter.counts);
     }
 }
 
@@ -68,7 +68,7 @@ fn is_taken(reply: ResultUnit) -> bool {
 }
 
 // The five lines; none after one that cannot be written.
-fn print_all(counts: Counts) -> bool {
+fn print_counts(counts: Counts) -> bool {
     print(Count::Taken, counts.taken)
         && print(Count::Dropped, counts.dropped)
         && print(Count::Framed, counts.framed)
