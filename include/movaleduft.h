@@ -7,7 +7,7 @@
  *
  * Ownership. Nothing is allocated and nothing is kept: a call reads and writes the places that it is lent, until it returns.
  * There is no global state, nothing to set up and nothing to free. Any thread may call at any time; two calls at once are to
- * share no place that one of them writes. A splitter's state is the caller's own: two variables, its counts and a hold buffer.
+ * share no place that one of them writes. A splitter's state is the caller's own: one variable and a hold buffer.
  *
  * Pointers and lengths. No pointer is NULL, that of an empty buffer neither: lend any place and the length 0. A length is how
  * many elements stand at the pointer, bytes or, for speeds, doubles. No two places that are lent to a call overlap.
@@ -134,29 +134,32 @@ struct mvd_fed {
     uint64_t event, taken, in_hold, start, len;
 };
 
-/* Bytes since the start: taken; dropped outside frames; handed over in frames, F0 and F1 included; lost in overlong frames, those
- * of one that is being skipped now included; and held. Taken is the sum of the other four, and held is the state's count. They run
- * on after a frame. */
-struct mvd_counts {
-    uint64_t taken, dropped, framed, lost, held;
+/* A splitter's state, all 0 at the start. After a frame, or one that is too long, the count and the mark are 0 again; the five counts
+ * run on: each is of the bytes since the start. */
+struct mvd_splitter {
+    uint64_t count;    /* how many bytes of an open frame lie in the hold */
+    uint64_t skipping; /* the mark: 1 where the open frame has outgrown the hold, else 0 */
+    uint64_t taken;    /* bytes taken: the sum of the next four */
+    uint64_t dropped;  /* dropped outside frames */
+    uint64_t framed;   /* handed over in frames, F0 and F1 included */
+    uint64_t lost;     /* lost in overlong frames, those being skipped now included */
+    uint64_t held;     /* held: the count again */
 };
 
-/* One event of a stream, which may be cut anywhere. The state is `count`, the mark `skipping` and `counts`, all 0 at the start; the
- * call alone alters them and `hold`. A frame longer than the hold is MVD_OVERLONG. MVD_BAD_STATE is a count above `hold_len`, a mark
- * that is neither 0 nor 1, a mark with a count other than 0, a `taken` that is not the sum of the other four, added without
- * wrapping, and a `held` that differs from the count. Then MVD_COUNTER_FULL: `taken` and `chunk_len` would pass UINT64_MAX.
- * What was not taken is offered again; read a frame before that:
+/* One event of a stream, which may be cut anywhere. The call alone alters `splitter` and `hold`. A frame longer than the hold is
+ * MVD_OVERLONG. MVD_BAD_STATE is a count above `hold_len`, a mark that is neither 0 nor 1, a mark with a count other than 0, a `taken`
+ * that is not the sum of the other four, added without wrapping, and a `held` that differs from the count. Then MVD_COUNTER_FULL:
+ * `taken` and `chunk_len` would pass UINT64_MAX. What was not taken is offered again; read a frame before that:
  *
- *     size_t count = 0;
- *     uint8_t skipping = 0, hold[2048];
- *     struct mvd_counts counts = {0};
+ *     struct mvd_splitter splitter = {0};
  *     struct mvd_fed fed;
+ *     uint8_t hold[2048];
  *     for (size_t at = 0; at < got; at += fed.taken) {
- *         if (mvd_feed(&count, &skipping, &counts, hold, sizeof hold, chunk + at, got - at, &fed, values) != MVD_OK) abort();
+ *         if (mvd_feed(&splitter, hold, sizeof hold, chunk + at, got - at, &fed, values) != MVD_OK) abort();
  *         if (fed.event == MVD_FRAME) frame((fed.in_hold ? hold : chunk + at) + fed.start, fed.len);
  *     } */
-uint64_t mvd_feed(size_t *count, uint8_t *skipping, struct mvd_counts *counts, uint8_t *hold, size_t hold_len,
-                  const uint8_t *chunk, size_t chunk_len, struct mvd_fed *fed, uint64_t values[3]);
+uint64_t mvd_feed(struct mvd_splitter *splitter, uint8_t *hold, size_t hold_len, const uint8_t *chunk, size_t chunk_len,
+                  struct mvd_fed *fed, uint64_t values[3]);
 
 /* ---- Messages */
 

@@ -33,7 +33,7 @@ struct told {
 #define IN_A_ROW(STRUCT, MANY, TYPE) typedef char STRUCT##_in_a_row[sizeof(struct STRUCT) == (MANY) * sizeof(TYPE) ? 1 : -1]
 IN_A_ROW(mvd_header, 4, uint64_t);
 IN_A_ROW(mvd_fed, 5, uint64_t);
-IN_A_ROW(mvd_counts, 5, uint64_t);
+IN_A_ROW(mvd_splitter, 7, uint64_t);
 IN_A_ROW(mvd_flight_whole, 8, int32_t);
 IN_A_ROW(mvd_flight_figures, 44, double);
 IN_A_ROW(mvd_flight_v1_whole, 4, int32_t);
@@ -252,20 +252,16 @@ struct found {
 };
 
 struct splitter {
-    size_t count;
-    uint8_t skipping;
-    struct mvd_counts counts;
-    uint64_t behind; /* the counts */
+    struct mvd_splitter state;
+    uint64_t behind; /* the state */
     uint8_t hold[MAX_LENT + GUARD];
     size_t room;
     struct found *found;
 };
 
-static void start(struct splitter *s, size_t count, uint8_t skipping, const struct mvd_counts *counts, size_t room) {
+static void start(struct splitter *s, const struct mvd_splitter *state, size_t room) {
     static struct found found;
-    s->count = count;
-    s->skipping = skipping;
-    s->counts = *counts;
+    s->state = *state;
     mark(&s->behind, sizeof s->behind);
     s->room = room;
     s->found = &found;
@@ -275,13 +271,13 @@ static void start(struct splitter *s, size_t count, uint8_t skipping, const stru
 
 /* The hold has what it had, and from the old count on the bytes that the call added, the last that it took. */
 static void check_hold(const struct splitter *s, const struct splitter *old, const uint8_t *chunk, const struct mvd_fed *fed) {
-    size_t added = 0, held;
-    if (fed->event == MVD_FRAME && fed->in_hold) added = (size_t)fed->len - old->count;
-    if (fed->event == MVD_MORE && s->count > old->count) added = s->count - old->count;
-    held = old->count + added;
+    size_t added = 0, before = (size_t)old->state.count, after = (size_t)s->state.count, held;
+    if (fed->event == MVD_FRAME && fed->in_hold) added = (size_t)fed->len - before;
+    if (fed->event == MVD_MORE && after > before) added = after - before;
+    held = before + added;
     check(added <= fed->taken && held <= s->room, "more bytes are held than were taken, or than there is room for");
-    check(memcmp(s->hold, old->hold, old->count) == 0, "a held byte was altered");
-    check(memcmp(s->hold + old->count, chunk + fed->taken - added, added) == 0, "other bytes are held than those taken");
+    check(memcmp(s->hold, old->hold, before) == 0, "a held byte was altered");
+    check(memcmp(s->hold + before, chunk + fed->taken - added, added) == 0, "other bytes are held than those taken");
     check(memcmp(s->hold + held, old->hold + held, s->room + GUARD - held) == 0, "the hold was written behind what it holds");
 }
 
@@ -297,12 +293,12 @@ static void keep_frame(const struct splitter *s, const uint8_t *chunk, size_t le
     f->len += (size_t)fed->len;
 }
 
-/* What was taken is counted, all of it is in one of the other four, and nothing is written behind the counts. */
+/* What was taken is counted, all of it is in one of the other four, and nothing is written behind the state. */
 static void check_counts(const struct splitter *s, const struct splitter *old, uint64_t taken) {
-    const struct mvd_counts *k = &s->counts;
-    check(marked(&s->behind, sizeof s->behind), "more than five counts were written");
-    check(k->taken - old->counts.taken == taken, "other bytes are counted than were taken");
-    check(k->taken == k->dropped + k->framed + k->lost + k->held && k->held == s->count, "the counts do not balance");
+    const struct mvd_splitter *k = &s->state;
+    check(marked(&s->behind, sizeof s->behind), "more than the state was written");
+    check(k->taken - old->state.taken == taken, "other bytes are counted than were taken");
+    check(k->taken == k->dropped + k->framed + k->lost + k->held && k->held == k->count, "the counts do not balance");
 }
 
 /* One call of `mvd_feed`; `taken` gets how many bytes it took. */
@@ -311,11 +307,10 @@ static uint64_t feed(struct splitter *s, const uint8_t *chunk, size_t len, struc
     struct splitter old = *s;
     mark(t, sizeof *t);
     mark(&r, sizeof r);
-    uint64_t refusal = mvd_feed(&s->count, &s->skipping, &s->counts, s->hold, s->room, chunk, len, &r.fed, t->values);
+    uint64_t refusal = mvd_feed(&s->state, s->hold, s->room, chunk, len, &r.fed, t->values);
     check(marked(&r.end, sizeof r.end), "more than five words were written");
     if (refusal != MVD_OK) {
-        int kept = s->count == old.count && s->skipping == old.skipping && marked(&r, sizeof r);
-        check(kept && memcmp(&s->counts, &old.counts, sizeof s->counts) == 0, "a refusal wrote");
+        check(marked(&r, sizeof r) && memcmp(&s->state, &old.state, sizeof s->state) == 0, "a refusal wrote");
         check(marked(&s->behind, sizeof s->behind) && memcmp(s->hold, old.hold, s->room + GUARD) == 0, "a refusal wrote");
         return refusal;
     }
@@ -340,7 +335,9 @@ static uint64_t offer(struct splitter *s, const uint8_t *chunk, size_t len, stru
     return MVD_OK;
 }
 
-static void counts(const struct mvd_counts *k) {
+static void words(const struct mvd_splitter *k) {
+    unsigned_whole(k->count);
+    unsigned_whole(k->skipping);
     unsigned_whole(k->taken);
     unsigned_whole(k->dropped);
     unsigned_whole(k->framed);
@@ -351,12 +348,10 @@ static void counts(const struct mvd_counts *k) {
 /* The answer of a splitter that was not refused. */
 static void end_split(const struct splitter *s) {
     for (size_t i = 0; i < s->found->frames; i++) whole(s->found->lengths[i]);
-    unsigned_whole(s->count);
-    whole(s->skipping);
-    counts(&s->counts);
+    words(&s->state);
     printf(" :");
     hex(s->found->bytes, s->found->len);
-    hex(s->hold, s->count);
+    hex(s->hold, (size_t)s->state.count);
     printf("\n");
 }
 
@@ -364,10 +359,10 @@ static void end_split(const struct splitter *s) {
 static void split(struct question *q) {
     struct splitter s;
     struct told t;
-    struct mvd_counts none = {0, 0, 0, 0, 0};
+    struct mvd_splitter fresh = {0, 0, 0, 0, 0, 0, 0};
     uint64_t sizes = q->b == 0 ? UINT64_C(0x0040004000400040) : q->b;
     size_t at = 0;
-    start(&s, 0, 0, &none, lent_length(q->a));
+    start(&s, &fresh, lent_length(q->a));
     while (at < q->len) {
         size_t size = (size_t)(sizes >> 48);
         if (size > q->len - at) size = q->len - at;
@@ -380,17 +375,17 @@ static void split(struct question *q) {
 }
 
 /* A state that the case gives: the chunk is offered to it, or it is refused. */
-static void offer_state(struct question *q, const struct mvd_counts *counts, const uint8_t *chunk, size_t len) {
+static void offer_state(struct question *q, const struct mvd_splitter *given, const uint8_t *chunk, size_t len) {
     struct splitter s;
     struct told t;
-    start(&s, (size_t)q->a, (uint8_t)q->b, counts, lent_length(q->b >> 8));
+    start(&s, given, lent_length(q->b >> 8));
     if (told(offer(&s, chunk, len, &t), &t, NULL, 0)) end_split(&s);
     else end();
 }
 
 /* It took what it holds, and no more. */
 static void state(struct question *q) {
-    struct mvd_counts held = {q->a, 0, 0, 0, q->a};
+    struct mvd_splitter held = {q->a, (uint8_t)q->b, q->a, 0, 0, 0, q->a};
     offer_state(q, &held, q->data, q->len);
 }
 
@@ -405,7 +400,7 @@ static uint64_t little(const uint8_t *bytes) {
 static void counted_state(struct question *q) {
     const uint8_t *k = q->data;
     if (q->len < COUNTS) no_case("it has not the five counts of its state");
-    struct mvd_counts given = {little(k), little(k + 8), little(k + 16), little(k + 24), little(k + 32)};
+    struct mvd_splitter given = {q->a, (uint8_t)q->b, little(k), little(k + 8), little(k + 16), little(k + 24), little(k + 32)};
     offer_state(q, &given, q->data + COUNTS, q->len - COUNTS);
 }
 

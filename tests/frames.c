@@ -9,9 +9,7 @@
 
 struct line {
     uint8_t hold[2048];
-    size_t count;
-    uint8_t skipping;
-    struct mvd_counts counts;
+    struct mvd_splitter splitter;
     unsigned long long number; /* of the next event */
     int shown;                 /* whether payloads and counts are */
 };
@@ -62,8 +60,7 @@ static void events(struct line *line, const uint8_t *chunk, size_t got) {
     struct mvd_fed fed;
     uint64_t values[3];
     for (size_t at = 0; at < got; at += (size_t)fed.taken) {
-        uint64_t refusal = mvd_feed(&line->count, &line->skipping, &line->counts, line->hold, sizeof line->hold,
-                                    chunk + at, got - at, &fed, values);
+        uint64_t refusal = mvd_feed(&line->splitter, line->hold, sizeof line->hold, chunk + at, got - at, &fed, values);
         check(refusal == MVD_OK, "a state that mvd_feed left was refused");
         const uint8_t *lies = fed.in_hold ? line->hold : chunk + at;
         if (fed.event == MVD_FRAME) frame(line->number++, lies + fed.start, (size_t)fed.len, line->shown);
@@ -71,9 +68,9 @@ static void events(struct line *line, const uint8_t *chunk, size_t got) {
     }
 }
 
-static void counts(const struct mvd_counts *k) {
-    printf("taken %" PRIu64 "\ndropped %" PRIu64 "\nframed %" PRIu64 "\n", k->taken, k->dropped, k->framed);
-    printf("lost %" PRIu64 "\nheld %" PRIu64 "\n", k->lost, k->held);
+static void counts(const struct mvd_splitter *s) {
+    printf("taken %" PRIu64 "\ndropped %" PRIu64 "\nframed %" PRIu64 "\n", s->taken, s->dropped, s->framed);
+    printf("lost %" PRIu64 "\nheld %" PRIu64 "\n", s->lost, s->held);
 }
 
 int main(int argc, char **argv) {
@@ -83,7 +80,7 @@ int main(int argc, char **argv) {
     line.shown = argc == 2 && strcmp(argv[1], "all") == 0;
     check(argc == 1 || line.shown, "usage: frames [all] < CAPTURE");
     while ((got = fread(chunk, 1, sizeof chunk, stdin)) > 0) events(&line, chunk, got);
-    printf("end %zu %d\n", line.count, line.skipping);
-    if (line.shown) counts(&line.counts);
+    printf("end %" PRIu64 " %" PRIu64 "\n", line.splitter.count, line.splitter.skipping);
+    if (line.shown) counts(&line.splitter);
     return 0;
 }

@@ -109,9 +109,8 @@ fn encode(c: &Case) -> Answer {
 /// A state and its hold buffer.
 #[derive(Clone, PartialEq)]
 struct Splitter {
-    count: usize,
-    skipping: u8,
-    counts: Counts,
+    /// The count, the mark and the counts.
+    words: [u64; 7],
     hold: Vec<u8>,
 }
 
@@ -123,26 +122,36 @@ struct Fed {
 
 impl Splitter {
     fn new(room: usize) -> Self {
-        Self { count: 0, skipping: 0, counts: [0; 5], hold: vec![ops::UNTOUCHED; room] }
+        Self { words: [0; 7], hold: vec![ops::UNTOUCHED; room] }
+    }
+
+    fn count(&self) -> usize {
+        self.words[0] as usize
+    }
+
+    fn counts(&self) -> Counts {
+        let [_, _, counts @ ..] = self.words;
+        counts
     }
 
     /// One call, or its refusal, which alters nothing. One number more of each is lent, which must stay.
     fn feed(&mut self, chunk: &[u8]) -> Result<Fed, Answer> {
         let old = self.clone();
-        let (mut fed, mut counts) = ([MARK; 6], [MARK; 6]);
-        counts[..5].copy_from_slice(&self.counts);
+        let (mut fed, mut words) = ([MARK; 6], [MARK; 8]);
+        words[..7].copy_from_slice(&self.words);
         let r = told(|v| unsafe {
-            let (k, h, room, f) = (counts.as_mut_ptr(), self.hold.as_mut_ptr(), self.hold.len(), fed.as_mut_ptr());
-            c::mvd_feed(&mut self.count, &mut self.skipping, k, h, room, chunk.as_ptr(), chunk.len(), f, v)
+            let (s, h, room, f) = (words.as_mut_ptr(), self.hold.as_mut_ptr(), self.hold.len(), fed.as_mut_ptr());
+            c::mvd_feed(s, h, room, chunk.as_ptr(), chunk.len(), f, v)
         });
-        assert!(fed[5] == MARK && counts[5] == MARK, "more was written than the call answers");
-        self.counts.copy_from_slice(&counts[..5]);
+        assert!(fed[5] == MARK && words[7] == MARK, "more was written than the call answers");
+        self.words.copy_from_slice(&words[..7]);
         if r.refusal != 0 {
             assert!(*self == old && fed == [MARK; 6], "a refusal altered the state, the hold buffer or the answer");
             return Err(r);
         }
-        assert!(noise::balance(self.counts) && self.counts[4] == self.count as u64, "the counts do not balance");
-        assert_eq!(self.counts[0] - old.counts[0], fed[1], "other bytes were counted than taken");
+        let counts = self.counts();
+        assert!(noise::balance(counts) && counts[4] == self.words[0], "the counts do not balance");
+        assert_eq!(counts[0] - old.counts()[0], fed[1], "other bytes were counted than taken");
         let frame = (fed[0] == 1).then(|| (fed[2] == 1, fed[3] as usize, fed[4] as usize));
         Ok(Fed { event: fed[0], taken: fed[1] as usize, frame })
     }
@@ -151,17 +160,17 @@ impl Splitter {
     /// writes exactly the bytes it adds, from the old count on.
     fn offer(&mut self, mut chunk: &[u8], answer: &mut Answer) -> Result<(), Answer> {
         loop {
-            let (old_hold, old_count) = (self.hold.clone(), self.count);
+            let (old_hold, old_count) = (self.hold.clone(), self.count());
             let fed = self.feed(chunk)?;
             assert!(fed.taken <= chunk.len() && (fed.taken > 0 || chunk.is_empty()), "taken {} of {}", fed.taken, chunk.len());
             let added = match fed.frame {
                 Some((true, _, len)) => len - old_count,
                 Some((false, _, _)) => 0,
-                None => self.count.saturating_sub(old_count),
+                None => self.count().saturating_sub(old_count),
             };
             let mut expected = old_hold;
             expected[old_count..old_count + added].copy_from_slice(&chunk[fed.taken - added..fed.taken]);
-            assert!(fed.event != 0 || self.count >= old_count || self.skipping == 1, "held bytes were lost");
+            assert!(fed.event != 0 || self.count() >= old_count || self.words[1] == 1, "held bytes were lost");
             assert!(self.hold == expected, "the hold buffer has other bytes than those added");
             match (fed.event, fed.frame) {
                 (1, Some((in_hold, start, len))) => {
@@ -180,9 +189,8 @@ impl Splitter {
 
     /// The count, the mark and the counts at the end, and the bytes held.
     fn end(self, mut answer: Answer) -> Answer {
-        answer.whole.extend([self.count as i128, self.skipping as i128]);
-        answer.whole.extend(self.counts.map(i128::from));
-        answer.bytes.extend_from_slice(&self.hold[..self.count]);
+        answer.whole.extend(self.words.map(i128::from));
+        answer.bytes.extend_from_slice(&self.hold[..self.count()]);
         answer
     }
 }
@@ -197,8 +205,9 @@ fn split(c: &Case) -> Answer {
 
 /// A state that the caller gives: refused at the first call, or it goes on as a split does.
 fn state(c: &Case) -> Answer {
-    let State { count, hold, mark, counts, chunk } = State::of(c);
-    let mut s = Splitter { count: count as usize, skipping: mark, counts, hold: vec![ops::UNTOUCHED; hold as usize] };
+    let State { count, hold, mark, counts: [taken, dropped, framed, lost, held], chunk } = State::of(c);
+    let words = [count, mark.into(), taken, dropped, framed, lost, held];
+    let mut s = Splitter { words, hold: vec![ops::UNTOUCHED; hold as usize] };
     let mut answer = Answer::default();
     s.offer(chunk, &mut answer).map_or_else(|refused| refused, |()| s.end(answer))
 }

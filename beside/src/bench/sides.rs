@@ -86,14 +86,13 @@ impl Lent {
 
 /// The sum of what is answered to each frame of a stream.
 pub fn port_split(hold: &mut [u8; HOLD], stream: &[u8], chunk: usize, mut take: impl FnMut(&[u8]) -> usize) -> usize {
-    let (mut count, mut skipping, mut counts) = (0, 0, [0u64; 5]);
-    let (mut fed, mut values, mut sum) = ([0u64; 5], [0u64; 3], 0);
+    let (mut splitter, mut fed, mut values, mut sum) = ([0u64; 7], [0u64; 5], [0u64; 3], 0);
     for part in stream.chunks(chunk) {
         let mut rest = part;
         while !rest.is_empty() {
             let refusal = unsafe {
-                let (k, h, f, v) = (counts.as_mut_ptr(), hold.as_mut_ptr(), fed.as_mut_ptr(), values.as_mut_ptr());
-                c::mvd_feed(&mut count, &mut skipping, k, h, HOLD, rest.as_ptr(), rest.len(), f, v)
+                let (s, h, f, v) = (splitter.as_mut_ptr(), hold.as_mut_ptr(), fed.as_mut_ptr(), values.as_mut_ptr());
+                c::mvd_feed(s, h, HOLD, rest.as_ptr(), rest.len(), f, v)
             };
             assert_eq!(refusal, 0, "a state that feed gave was refused");
             let [event, taken, in_hold, start, len] = fed.map(|n| n as usize);

@@ -57,9 +57,7 @@ extern "C" {
         values: *mut u64,
     ) -> u64;
     pub fn mvd_feed(
-        count: *mut usize,
-        skipping: *mut u8,
-        counts: *mut u64,
+        splitter: *mut u64,
         hold: *mut u8,
         hold_len: usize,
         chunk: *const u8,

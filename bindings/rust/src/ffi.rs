@@ -76,17 +76,11 @@ pub(crate) fn encode(dest: u8, src: u8, type_id: u8, payload: &[u8], wire: &mut 
 }
 
 /// The event; the bytes taken; of a frame where it lies (1: in the hold), its start there and its length.
-/// The counts are in the order of [`Counts`](crate::frame::Counts).
-pub(crate) fn feed(
-    count: &mut usize,
-    skipping: &mut u8,
-    counts: &mut [u64; 5],
-    hold: &mut [u8],
-    chunk: &[u8],
-) -> Result<[u64; 5]> {
+/// The state is the count, the mark and the counts, in the order of [`Counts`](crate::frame::Counts).
+pub(crate) fn feed(splitter: &mut [u64; 7], hold: &mut [u8], chunk: &[u8]) -> Result<[u64; 5]> {
     told([0; 5], |fed, values| unsafe {
         let (h, room, p, n) = (hold.as_mut_ptr(), hold.len(), chunk.as_ptr(), chunk.len());
-        c::mvd_feed(count, skipping, counts.as_mut_ptr(), h, room, p, n, fed.as_mut_ptr(), values)
+        c::mvd_feed(splitter.as_mut_ptr(), h, room, p, n, fed.as_mut_ptr(), values)
     })
 }
 

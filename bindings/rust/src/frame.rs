@@ -92,9 +92,8 @@ const LONGEST: usize = 131_082;
 /// [`counts`](Self::counts) tells what became of every byte.
 pub struct FrameSplitter {
     hold: Box<[u8]>,
-    count: usize,
-    skipping: u8,
-    counts: [u64; 5],
+    /// The count, the mark and the five counts.
+    state: [u64; 7],
     overlong: u64,
 }
 
@@ -121,7 +120,7 @@ impl FrameSplitter {
 
     /// A splitter that holds so many bytes, and leaves out every frame longer than that.
     pub fn with_hold(bytes: usize) -> Self {
-        Self { hold: vec![0; bytes].into(), count: 0, skipping: 0, counts: [0; 5], overlong: 0 }
+        Self { hold: vec![0; bytes].into(), state: [0; 7], overlong: 0 }
     }
 
     /// Takes all the bytes, and answers the frames that they complete, each from its F0 to its F1.
@@ -133,7 +132,7 @@ impl FrameSplitter {
         let mut frames = Vec::new();
         let mut rest = data;
         while !rest.is_empty() {
-            let fed = ffi::feed(&mut self.count, &mut self.skipping, &mut self.counts, &mut self.hold, rest);
+            let fed = ffi::feed(&mut self.state, &mut self.hold, rest);
             let fed = fed.expect("the library takes each state that it gave, up to 2^64 - 1 bytes");
             let [event, taken, in_hold, start, len] = fed.map(|n| n as usize);
             match event {
@@ -153,18 +152,18 @@ impl FrameSplitter {
 
     /// What became of the bytes so far.
     pub fn counts(&self) -> Counts {
-        let [taken, dropped, framed, lost, held] = self.counts;
+        let [_, _, taken, dropped, framed, lost, held] = self.state;
         Counts { taken, dropped, framed, lost, held }
     }
 
     /// The bytes held of a frame that is still open.
     pub fn held(&self) -> &[u8] {
-        &self.hold[..self.count]
+        &self.hold[..self.state[0] as usize]
     }
 
     /// Whether the frame that is still open is already longer than the splitter holds.
     pub fn is_skipping(&self) -> bool {
-        self.skipping != 0
+        self.state[1] != 0
     }
 }
 
