@@ -53,9 +53,7 @@ pub(crate) fn split(head: &[u8], stream: &[u8], out: &mut [u8]) -> usize {
     let b = number(head, 9);
     let sizes = if b == 0 { 0x0040_0040_0040_0040 } else { b };
     let fresh = Splitter {
-        count: 0,
-        skipping: 0,
-        counts: [0; 5],
+        words: [0; 7],
         at: 0,
         told: 0,
         to: 0,
@@ -66,27 +64,32 @@ pub(crate) fn split(head: &[u8], stream: &[u8], out: &mut [u8]) -> usize {
 // A chunk, at once, to a state that the case gives, which took what it holds and no more.
 pub(crate) fn state(head: &[u8], chunk: &[u8], out: &mut [u8]) -> usize {
     let held = number(head, 1);
-    given(head, [held, 0, 0, 0, held], chunk, out)
+    given(head, [held, mark(head), held, 0, 0, 0, held], chunk, out)
 }
 
 // A chunk, at once, to a state whose counts stand before it.
 pub(crate) fn counted_state(head: &[u8], data: &[u8], out: &mut [u8]) -> usize {
-    let counts = [
+    let words = [
+        number(head, 1),
+        mark(head),
         little(data, 0),
         little(data, 8),
         little(data, 16),
         little(data, 24),
         little(data, 32),
     ];
-    given(head, counts, cut(data, 40, data.len()), out)
+    given(head, words, cut(data, 40, data.len()), out)
 }
 
-// The mark is the second number's low byte, H the rest of it.
-fn given(head: &[u8], counts: [u64; 5], chunk: &[u8], out: &mut [u8]) -> usize {
+// The second number's low byte.
+fn mark(head: &[u8]) -> u64 {
+    integer::byte_at(head, 16) as u64
+}
+
+// H is the rest of the second number.
+fn given(head: &[u8], words: [u64; 7], chunk: &[u8], out: &mut [u8]) -> usize {
     let start = Splitter {
-        count: number(head, 1) as usize,
-        skipping: integer::byte_at(head, 16),
-        counts,
+        words,
         at: 0,
         told: 0,
         to: 0,
@@ -102,9 +105,7 @@ fn given(head: &[u8], counts: [u64; 5], chunk: &[u8], out: &mut [u8]) -> usize {
 
 // A splitter's state, where the stream and the answer line stand, and what the last call answered.
 struct Splitter {
-    count: usize,
-    skipping: u8,
-    counts: [u64; 5],
+    words: [u64; 7],
     at: usize,
     told: u64,
     to: usize,
@@ -124,23 +125,9 @@ fn lengths(start: Splitter, h: usize, sizes: u64, stream: &[u8], out: &mut [u8])
     let n = within(h, &room);
     let at = say::decimal(0, out, 0);
     let end = offer(moved(start, at), sizes, stream, &mut room[..n], false, out);
-    moved(end, ending(end, out))
-}
-
-// The state at the end of the stream.
-fn ending(end: Splitter, out: &mut [u8]) -> usize {
-    let counts = end.counts;
-    let at = say::whole(end.count as u64, out, end.to);
-    let at = say::whole(end.skipping as u64, out, at);
-    tallies(counts, out, at)
-}
-
-fn tallies(counts: [u64; 5], out: &mut [u8], at: usize) -> usize {
-    let at = say::whole(counts[0], out, at);
-    let at = say::whole(counts[1], out, at);
-    let at = say::whole(counts[2], out, at);
-    let at = say::whole(counts[3], out, at);
-    say::whole(counts[4], out, at)
+    let words = &end.words;
+    let at = say::wholes(words, 7, out, end.to);
+    moved(end, at)
 }
 
 fn contents(
@@ -156,17 +143,16 @@ fn contents(
     let hold = &mut room[..n];
     let at = say::text(b" :", out, at);
     let end = offer(moved(start, at), sizes, stream, hold, true, out);
-    let at = say::hex(cut(hold, 0, end.count), out, end.to);
+    let count = end.words[0] as usize;
+    let at = say::hex(cut(hold, 0, count), out, end.to);
     say::text(b"\n", out, at)
 }
 
 // The same state, with another place in the answer line.
 fn moved(state: Splitter, to: usize) -> Splitter {
-    let counts = state.counts;
+    let words = state.words;
     Splitter {
-        count: state.count,
-        skipping: state.skipping,
-        counts,
+        words,
         at: state.at,
         told: state.told,
         to,
@@ -212,26 +198,14 @@ fn feed(
     shown: bool,
     out: &mut [u8],
 ) -> Splitter {
-    let mut count = state.count;
-    let mut skipping = state.skipping;
-    let mut counts = state.counts;
+    let mut words = state.words;
     let mut fed = [0u64; 5];
     let mut values = [0u64; 3];
     let chunk = cut(stream, state.at, end);
-    let told = abi_splitter::mvd_feed(
-        &mut count,
-        &mut skipping,
-        &mut counts,
-        hold,
-        chunk,
-        &mut fed,
-        &mut values,
-    );
+    let told = abi_splitter::mvd_feed(&mut words, hold, chunk, &mut fed, &mut values);
     let to = event(fed, chunk, hold, shown, out, state.to);
     Splitter {
-        count,
-        skipping,
-        counts,
+        words,
         at: std::num::wrapping_add_usize(state.at, fed[1] as usize),
         told,
         to,
