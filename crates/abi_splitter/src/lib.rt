@@ -23,29 +23,38 @@ pub extern "C" fn mvd_feed(
         k (now (splitter .exit), now (fed .exit)) (now (values .exit)) ⌝ }
     ensures bytes { λ k. ⌜ now (hold .exit) ≡ feedFrom (now (splitter .entry)) (now (hold .entry)) (now (chunk .entry)) .hold ⌝ }
 {
-    if 1 < splitter[1] {
-        return tell(WireError::BadState, values);
-    }
-    let state = state_of(splitter);
-    let r = state.feed(hold, chunk);
-    let event = r.event;
-    let taken = r.taken as u64;
-    match event {
-        Event::More => *fed = [0, taken, 0, 0, 0],
-        Event::Frame(p) => {
-            *fed = [
-                1,
-                taken,
-                flag(p.in_hold) as u64,
-                p.start as u64,
-                p.len as u64,
-            ]
+    if splitter[1] < 2 {
+        let state = state_of(splitter);
+        let r = state.feed(hold, chunk);
+        let event = r.event;
+        let next = r.splitter;
+        let taken = r.taken as u64;
+        match event {
+            Event::More => {
+                *fed = [0, taken, 0, 0, 0];
+                *splitter = words_of(next);
+                return 0;
+            }
+            Event::Frame(p) => {
+                *fed = [
+                    1,
+                    taken,
+                    flag(p.in_hold) as u64,
+                    p.start as u64,
+                    p.len as u64,
+                ];
+                *splitter = words_of(next);
+                return 0;
+            }
+            Event::Overlong => {
+                *fed = [2, taken, 0, 0, 0];
+                *splitter = words_of(next);
+                return 0;
+            }
+            Event::Err(e) => return tell(e, values),
         }
-        Event::Overlong => *fed = [2, taken, 0, 0, 0],
-        Event::Err(e) => return tell(e, values),
     }
-    *splitter = words_of(r.splitter);
-    0
+    tell(WireError::BadState, values)
 }
 
 // The seven words as a state.

@@ -5,10 +5,10 @@ use mathlib.Core.Bool.{Bool, true, false, not, _&&_, _||_}
 use mathlib.Core.List.{List}
 use Prim.Native.Nat.{ℕ, _+_, _-_, _^_, _≤_, _<_, zero-le}
 use native.Mathlib.Omega.{arith}
-use native.Mathlib.Nat.{zero-add}
+use native.Mathlib.Nat.{zero-add, add-zero}
 use lib.Dec.{eqb, leb, ltb}
-use lib.ListN.{length}
-use lib.Seq.{take-length, paste}
+use lib.ListN.{length, getD, set}
+use lib.Seq.{take-length, paste, paste-zero, paste-suc}
 use borrow.Author.Tests.{eq-eqb, ne-eqb, lt-ltb, le-ltb, ltb-false, leb-true, leb-false, eqb-true, not-true, not-false}
 use Rattle.general.proofs.Cases.{by-test, by-lt}
 use Rattle.search.specs.First.{indexOf, firstFrom}
@@ -24,6 +24,13 @@ use Rattle.splitter.specs.Private.{Room}
 -- a whole list that is pasted
 pub paste-all : (d : List ℕ) (at : ℕ) (s : List ℕ) (i : ℕ) → i ≡ length s → paste d at s i ≡ laid d at s
 paste-all d at s i e = rw (e, take-length)
+
+-- one byte that is stored
+pub one-laid : (d : List ℕ) (at : ℕ) (s : List ℕ) → length s ≡ 1 → at + 1 ≤ length d → set d at (getD s 0 0) ≡ laid d at s
+one-laid d at s e l =
+    (λ i. set (paste-zero d at s i) (sym (add-zero at) i) (getD s 0 0))
+    ∙ paste-suc d at s 0 0 (omega arith) (omega arith)
+    ∙ paste-all d at s 1 (sym e)
 
 -- a frame without the mark is lost where the room that is left is less than what is added
 pub lost-is : (s : FrameSplitter) (H n : ℕ) → s .skipping ≡ false → s .count ≤ H → ltb (H - s .count) n ≡ not (isKept s H n)

@@ -231,11 +231,15 @@ fn went_on(taken: usize, count: usize, skipping: bool, counts: Counts) -> Fed
     }
 }
 
-// Writes src over dst from index at on.
+// Writes src over dst from index at on. A line that is read byte by byte brings one byte a call, so that has no loop.
 fn lay(dst: &mut [u8], at: usize, src: &[u8])
     requires { ⌜ at + length (now src) ≤ length (now dst) ⌝ }
     ensures { λ _. ⌜ now (dst .exit) ≡ laid (now (dst .entry)) at (now (src .entry)) ⌝ }
 {
+    if src.len() == 1 {
+        dst[at] = src[0];
+        return;
+    }
     let mut i = 0;
     while i < src.len() {
         dst[at + i] = src[i];

@@ -1,4 +1,4 @@
--- `lay` meets its contract. The loop's invariant: dst is its first self with the first i bytes of src pasted in.
+-- `lay` meets its contract. One byte is stored; else the loop's invariant: dst is its first self with the first i bytes of src pasted in.
 -- At its end all of src is.
 use mathlib.Core.Path.{_≡_, refl, _∙_}
 use Prim.Native.Nat.{_-_, _≤_}
@@ -6,7 +6,7 @@ use native.Mathlib.Numerals.{add-one}
 use native.Mathlib.Omega.{arith}
 use lib.ListN.{length, length-set}
 use lib.Seq.{paste, paste-zero, paste-suc}
-use Rattle.splitter.proofs.Laws.{paste-all}
+use Rattle.splitter.proofs.Laws.{paste-all, one-laid}
 use Rattle.splitter.proofs.lay.Statement.{statement}
 use Rattle.splitter.proofs.lay.Tie as tie
 
@@ -16,17 +16,33 @@ Inv-loop dst₀ at src i₀ dst i = (i ≤ length src) × ((dst ≡ paste dst₀
 abbrev μ-loop : tie.MeasureT-loop
 μ-loop dst₀ at src i₀ dst i = length src - i
 
-loop-holds : tie.Need-loop-holds Inv-loop μ-loop
-loop-holds c = (omega arith, (paste-zero (c .args .dst .now) (c .args .at) (c .args .src .now), refl))
-
 shared-slice-read-dst : tie.Need-shared-slice-read-dst Inv-loop μ-loop
 shared-slice-read-dst c = omega arith
+
+slice-write-dst : tie.Need-slice-write-dst Inv-loop μ-loop
+slice-write-dst c = omega arith
+
+same-length : tie.Need-same-length Inv-loop μ-loop
+same-length c = simp length-set
+
+returns : tie.Need-returns Inv-loop μ-loop
+returns c =
+    let a = c .before .before .args in
+    one-laid (a .dst .now) (a .at) (a .src .now) (c .before .if1 .taken) (omega arith)
+
+loop-holds : tie.Need-loop-holds Inv-loop μ-loop
+loop-holds c =
+    let a = c .before .args in
+    (omega arith, (paste-zero (a .dst .now) (a .at) (a .src .now), refl))
+
+shared-slice-read-dst-2 : tie.Need-shared-slice-read-dst-2 Inv-loop μ-loop
+shared-slice-read-dst-2 c = omega arith
 
 add-dst : tie.Need-add-dst Inv-loop μ-loop
 add-dst c = omega arith
 
-slice-write-dst : tie.Need-slice-write-dst Inv-loop μ-loop
-slice-write-dst c = omega arith
+slice-write-dst-2 : tie.Need-slice-write-dst-2 Inv-loop μ-loop
+slice-write-dst-2 c = omega arith
 
 add-i : tie.Need-add-i Inv-loop μ-loop
 add-i c = omega arith
@@ -37,7 +53,7 @@ loop-less c = omega arith
 loop-again : tie.Need-loop-again Inv-loop μ-loop
 loop-again c =
     let l = c .before .before in
-    let a = l .before .args in (
+    let a = l .before .before .args in (
       omega arith,
       (
         rw (l .loop .inv .1 .0, add-one (l .loop .i)) (paste-suc (a .dst .now) (a .at) (a .src .now) (l .loop .i) 0 (omega arith) (omega arith)),
@@ -45,15 +61,30 @@ loop-again c =
       ),
     )
 
-same-length : tie.Need-same-length Inv-loop μ-loop
-same-length c = c .before .loop .inv .1 .1
+same-length-2 : tie.Need-same-length-2 Inv-loop μ-loop
+same-length-2 c = c .before .loop .inv .1 .1
 
-returns : tie.Need-returns Inv-loop μ-loop
-returns c =
-    let a = c .before .before .args in
+returns-2 : tie.Need-returns-2 Inv-loop μ-loop
+returns-2 c =
+    let a = c .before .before .before .args in
     c .before .loop .inv .1 .0 ∙ paste-all (a .dst .now) (a .at) (a .src .now) (c .before .loop .i) (omega arith)
 
 pub lay-spec : {M : Type 1} → statement M
 lay-spec =
     tie.close
-    (tie.spec Inv-loop μ-loop loop-holds shared-slice-read-dst add-dst slice-write-dst add-i loop-less loop-again same-length returns)
+    (tie.spec
+    Inv-loop
+    μ-loop
+    shared-slice-read-dst
+    slice-write-dst
+    same-length
+    returns
+    loop-holds
+    shared-slice-read-dst-2
+    add-dst
+    slice-write-dst-2
+    add-i
+    loop-less
+    loop-again
+    same-length-2
+    returns-2)
