@@ -137,10 +137,10 @@ fn start(s: FrameSplitter, chunk: &[u8]) -> usize
 fn is_open(s: FrameSplitter) -> bool
     ensures { λ r. ⌜ r ≡ isOpen s ⌝ }
 {
-    if s.skipping {
+    if s.count != 0 {
         return true;
     }
-    s.count != 0
+    s.skipping
 }
 
 // Whether the open frame with added more bytes is longer than the hold buffer, or has been.
