@@ -1,15 +1,15 @@
 -- Laws of specs/Feed that the proofs cite: a frame that is kept, the cases of `ends`, `goesOn` and `feedRule`.
 -- And two for callers: no call gives a state that the next would refuse (`good-after`), and what it takes is counted (`taken-after`).
 use mathlib.Core.Path.{_≡_, refl, sym, ap, _∙_}
-use mathlib.Core.Bool.{Bool, true, false, not, _&&_, _||_}
-use mathlib.Core.List.{List}
+use mathlib.Core.Bool.{Bool, true, false, cond, not, _&&_, _||_}
+use mathlib.Core.List.{List, _++_}
 use Prim.Native.Nat.{ℕ, _+_, _-_, _^_, _≤_, _<_, zero-le}
 use native.Mathlib.Omega.{arith}
 use native.Mathlib.Nat.{zero-add, add-zero}
 use lib.Dec.{eqb, leb, ltb}
-use lib.ListN.{length, getD, set}
-use lib.Seq.{take-length, paste, paste-zero, paste-suc}
-use borrow.Author.Tests.{eq-eqb, ne-eqb, lt-ltb, le-ltb, ltb-false, leb-true, leb-false, eqb-true, not-true, not-false}
+use lib.ListN.{length, take, getD, set, replicate}
+use lib.Seq.{take-length, take-at, sets, sets-eq, paste, paste-zero, paste-suc}
+use borrow.Author.Tests.{eq-eqb, ne-eqb, lt-ltb, le-ltb, le-leb, ltb-false, leb-true, leb-false, eqb-true, not-true, not-false}
 use Rattle.general.proofs.Cases.{by-test, by-lt}
 use Rattle.search.specs.First.{indexOf, firstFrom}
 use Rattle.search.proofs.First.{index-le}
@@ -31,6 +31,14 @@ one-laid d at s e l =
     (λ i. set (paste-zero d at s i) (sym (add-zero at) i) (getD s 0 0))
     ∙ paste-suc d at s 0 0 (omega arith) (omega arith)
     ∙ paste-all d at s 1 (sym e)
+
+-- sixteen that are stored as a block
+pub block-laid : (d x : List ℕ) (at : ℕ) (s a : List ℕ) → length s ≡ 16 → at + length s ≤ length d → a ≡ take 16 (s ++ replicate 16 0)
+    → x ≡ cond (leb (at + 16) (length d)) (sets d at a) d → x ≡ laid d at s
+block-laid d x at s a e l is p =
+    let all : a ≡ s = is ∙ take-at s (replicate 16 0) 16 e in
+    let fits : at + 16 ≤ length d = omega arith in
+    p ∙ rw (le-leb (at + 16) (length d) fits, all) (sets-eq s d at l)
 
 -- a frame without the mark is lost where the room that is left is less than what is added
 pub lost-is : (s : FrameSplitter) (H n : ℕ) → s .skipping ≡ false → s .count ≤ H → ltb (H - s .count) n ≡ not (isKept s H n)

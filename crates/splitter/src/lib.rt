@@ -12,6 +12,8 @@ ghost use Rattle.splitter.specs.Private.{Room};
 use crate::counting::balances;
 use crate::counting::counted;
 use crate::counting::nothing;
+use blocks::block;
+use blocks::put_block;
 use error::WireError;
 use marks::END;
 use marks::START;
@@ -231,13 +233,18 @@ fn went_on(taken: usize, count: usize, skipping: bool, counts: Counts) -> Fed
     }
 }
 
-// Writes src over dst from index at on. A line that is read byte by byte brings one byte a call, so that has no loop.
+// Writes src over dst from index at on. A line that is read byte by byte brings one byte a call, and a serial port's buffer
+// sixteen: these have no loop.
 fn lay(dst: &mut [u8], at: usize, src: &[u8])
     requires { ⌜ at + length (now src) ≤ length (now dst) ⌝ }
     ensures { λ _. ⌜ now (dst .exit) ≡ laid (now (dst .entry)) at (now (src .entry)) ⌝ }
 {
     if src.len() == 1 {
         dst[at] = src[0];
+        return;
+    }
+    if src.len() == 16 {
+        put_block(block(src), dst, at);
         return;
     }
     let mut i = 0;
