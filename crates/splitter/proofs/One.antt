@@ -14,9 +14,13 @@ use Rattle.splitter.specs.Feed.{Given, Answer, more, overlong, frame, to
 use Rattle.splitter.proofs.FrameSplitter.new.Reads as new
 use Rattle.splitter.proofs.FrameSplitter.feed.Reads as feed
 use Rattle.splitter.proofs.FrameSplitter.is_bad.Reads as is-bad
+use Rattle.splitter.proofs.FrameSplitter.is_full.Reads as is-full
 
 pub one-new : (κs a r s x y : _) → new.Post κs a r x → new.Post κs a s y → r ≡ s
 one-new κs a r s x y = plain
+
+pub one-is-full : (κs a r s x y : _) → is-full.Post κs a r x → is-full.Post κs a s y → r ≡ s
+one-is-full κs a r s x y = plain
 
 pub one-is-bad : (κs a r s x y : _) → is-bad.Post κs a r x → is-bad.Post κs a s y → r ≡ s
 one-is-bad κs a r s x y = plain

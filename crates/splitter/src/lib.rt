@@ -139,10 +139,10 @@ fn start(s: FrameSplitter, chunk: &[u8]) -> usize
 fn is_open(s: FrameSplitter) -> bool
     ensures { λ r. ⌜ r ≡ isOpen s ⌝ }
 {
-    if s.count != 0 {
+    if s.skipping {
         return true;
     }
-    s.skipping
+    s.count != 0
 }
 
 // Whether the open frame with added more bytes is longer than the hold buffer, or has been.

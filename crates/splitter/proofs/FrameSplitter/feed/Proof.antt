@@ -3,7 +3,6 @@
 use borrow.Author.Needs.{needs}
 use mathlib.Core.Path.{_≡_, sym, ap, _∙_}
 use mathlib.Core.Bool.{false}
-use Prim.Native.Nat.{_+_}
 use native.Mathlib.Omega.{arith}
 use lib.ListN.{length}
 use Rattle.splitter.specs.declared.Fed.{Fed}
@@ -63,8 +62,7 @@ closes-requires c κs =
     let e = t .before .before in
     let a = start e .args in
     let g = good-is (a .self) (length (a .hold .now)) (good e) in
-    let k = room-for (a .self) (length (a .hold .now)) (length (a .chunk .now)) (good e) (free t) (c .before .before .find-far .result + 1) (omega arith) in
-    ((g .fits, k), omega arith)
+    ((g .fits, room-for (a .self) (length (a .hold .now)) (length (a .chunk .now)) (good e) (free t) _ (omega arith)), omega arith)
 
 same-length : tie.Need-same-length
 same-length c = search needs
