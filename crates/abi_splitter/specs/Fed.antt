@@ -8,7 +8,7 @@ use lib.ListN.{getD}
 use Rattle.error.specs.Refusal.{Told, onYes}
 use Rattle.splitter.specs.declared.FrameSplitter.{FrameSplitter}
 use Rattle.splitter.specs.declared.Place.{Place}
-use Rattle.splitter.specs.Feed.{Answer, more, overlong, frame, Given, refuses, feedRule}
+use Rattle.splitter.specs.Feed.{Answer, more, overlong, frame, Given, refusedAs, feedRule}
 use Rattle.abi.specs.Answer.{flagOf}
 
 abbrev pub stateOf : List ℕ → FrameSplitter
@@ -26,7 +26,7 @@ wordsOf s =
 
 -- what a call gives, from the seven words
 unfoldable pub feedFrom : List ℕ → List ℕ → List ℕ → Given
-feedFrom ws hold chunk = cond (ltb 1 (getD ws 1 0)) (refuses 9 (stateOf ws) hold) (feedRule (stateOf ws) hold chunk)
+feedFrom ws hold chunk = cond (ltb 1 (getD ws 1 0)) (refusedAs 9 (stateOf ws) hold) (feedRule (stateOf ws) hold chunk)
 
 -- which event, the bytes taken, and of a frame: whether it lies in the hold, its start and its length
 unfoldable pub fedOf : ℕ → Answer Place → List ℕ

@@ -18,7 +18,7 @@ use Rattle.splitter.specs.declared.FrameSplitter.{FrameSplitter}
 use Rattle.splitter.specs.declared.Fed.{Fed}
 use Rattle.splitter.specs.declared.Event.the-variants.{More, Frame, Overlong}
 use Rattle.splitter.specs.Feed.{Given, givenBy, isBad, isFull, isOpen, isKept, balances, startIn, part, laid, lengthWith}
-use Rattle.splitter.specs.Feed.{counted, handed, passed, holding, marked, ends, goesOn, runs, refuses, feedRule}
+use Rattle.splitter.specs.Feed.{counted, handed, givenUp, holding, marked, ends, goesOn, runs, refusedAs, feedRule}
 use Rattle.splitter.specs.Private.{Room}
 
 -- a whole list that is pasted
@@ -157,12 +157,12 @@ room-for s H n good free e l =
     record { sum = rw (g .held) at (g .sum); below = omega arith }
 
 module _ (s : FrameSplitter) (h c : List ℕ) where
-  pub feed-bad : isBad s (length h) ≡ true → feedRule s h c ≡ refuses 9 s h
+  pub feed-bad : isBad s (length h) ≡ true → feedRule s h c ≡ refusedAs 9 s h
   unfolding feedRule
   feed-bad e = rw e
 
   module _ (good : isBad s (length h) ≡ false) where
-    pub feed-full : isFull s (length c) ≡ true → feedRule s h c ≡ refuses 13 s h
+    pub feed-full : isFull s (length c) ≡ true → feedRule s h c ≡ refusedAs 13 s h
     unfolding feedRule
     feed-full e = rw (good, e)
 
@@ -194,8 +194,8 @@ module _ {s : FrameSplitter} {H i e : ℕ} (g : Good s H) (l : i ≤ e) where
   pub handed-good : Good (handed s i e) H
   handed-good = record { fits = zero-le; empty = λ m. refl; sum = counts-sum (lengthWith s (e - i)) 0 0 (omega arith); held = refl }
 
-  pub passed-good : Good (passed s i e) H
-  passed-good = record { fits = zero-le; empty = λ m. refl; sum = counts-sum 0 (lengthWith s (e - i)) 0 (omega arith); held = refl }
+  pub given-up-good : Good (givenUp s i e) H
+  given-up-good = record { fits = zero-le; empty = λ m. refl; sum = counts-sum 0 (lengthWith s (e - i)) 0 (omega arith); held = refl }
 
   pub marked-good : Good (marked s i e) H
   marked-good = record { fits = zero-le; empty = λ m. refl; sum = counts-sum 0 (lengthWith s (e - i)) 0 (omega arith); held = refl }
@@ -225,7 +225,7 @@ module _ (s : FrameSplitter) (h c : List ℕ) (good : isBad s (length h) ≡ fal
       by-test (isOpen s)
       (λ o. rw (l, k, o) (record { good = handed-good g m; takes = refl }))
       (λ o. rw (l, k, o) (record { good = handed-good g m; takes = refl })))
-      (λ k. rw (l, k) (record { good = passed-good g m; takes = refl })))
+      (λ k. rw (l, k) (record { good = given-up-good g m; takes = refl })))
       (λ l.
       by-test (isKept s (length h) (length c - i))
       (λ k. rw (l, k) (record { good = holding-good g n (kept-is s (length h) (length c - i) k .1); takes = refl }))

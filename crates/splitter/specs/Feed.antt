@@ -105,8 +105,8 @@ counted s i e framed lost held =
 abbrev pub handed : FrameSplitter → ℕ → ℕ → FrameSplitter
 handed s i e = record { count = 0; skipping = false; counts = counted s i e (lengthWith s (e - i)) 0 0 }
 
-abbrev pub passed : FrameSplitter → ℕ → ℕ → FrameSplitter
-passed s i e = record { count = 0; skipping = false; counts = counted s i e 0 (lengthWith s (e - i)) 0 }
+abbrev pub givenUp : FrameSplitter → ℕ → ℕ → FrameSplitter
+givenUp s i e = record { count = 0; skipping = false; counts = counted s i e 0 (lengthWith s (e - i)) 0 }
 
 abbrev pub holding : FrameSplitter → ℕ → ℕ → FrameSplitter
 holding s i e = record { count = lengthWith s (e - i); skipping = false; counts = counted s i e 0 0 (lengthWith s (e - i)) }
@@ -121,7 +121,7 @@ ends s h c i e =
     (cond (isOpen s)
     (given (yes (frame (record { in_hold = true; start = 0; len = lengthWith s (e - i) }))) e (handed s i e) (laid h (s .count) (part c i e)))
     (given (yes (frame (record { in_hold = false; start = i; len = e - i }))) e (handed s i e) h))
-    (given (yes overlong) e (passed s i e) h)
+    (given (yes overlong) e (givenUp s i e) h)
 
 -- all is taken, and it is unclosed: its bytes are held, or the mark is set
 unfoldable pub goesOn : FrameSplitter → List ℕ → List ℕ → ℕ → ℕ → Given
@@ -136,8 +136,8 @@ runs s h c i =
     cond (ltb (firstFrom 0xF1 i c) (length c)) (ends s h c i (firstFrom 0xF1 i c + 1)) (goesOn s h c i (length c))
 
 -- what is refused takes nothing and alters nothing
-abbrev pub refuses : ℕ → FrameSplitter → List ℕ → Given
-refuses k s h = given (no k []) 0 s h
+abbrev pub refusedAs : ℕ → FrameSplitter → List ℕ → Given
+refusedAs k s h = given (no k []) 0 s h
 
 unfoldable pub feedRule : FrameSplitter → List ℕ → List ℕ → Given
-feedRule s h c = cond (isBad s (length h)) (refuses 9 s h) (cond (isFull s (length c)) (refuses 13 s h) (runs s h c (startIn s c)))
+feedRule s h c = cond (isBad s (length h)) (refusedAs 9 s h) (cond (isFull s (length c)) (refusedAs 13 s h) (runs s h c (startIn s c)))

@@ -15,15 +15,15 @@ use Rattle.splitter.specs.declared.FrameSplitter.{FrameSplitter}
 use Rattle.search.specs.First.{indexOf}
 use Rattle.search.proofs.First.{found, index-le}
 use Rattle.splitter.specs.Feed.{Given, new, isBad, isFull, startIn, part, laid, ends, goesOn, feedRule, lengthWith, more}
-use Rattle.splitter.specs.Feed.{handed, passed, holding, marked}
+use Rattle.splitter.specs.Feed.{handed, givenUp, holding, marked}
 use Rattle.error.specs.Refusal.{yes}
 use Rattle.stream.specs.Stream.{Said, saidOf, answerTo}
 use Rattle.stream.specs.Heard.{atLast}
 use Rattle.stream.specs.Noise.{outside}
-use Rattle.splitter.proofs.Laws.{Good, is-good, handed-good, passed-good, holding-good, marked-good, feed-ends, feed-goes-on}
+use Rattle.splitter.proofs.Laws.{Good, is-good, handed-good, given-up-good, holding-good, marked-good, feed-ends, feed-goes-on}
 use Rattle.stream.proofs.Line.{opened, hear, framesIn, begun, silence, hear-append, opened-append, frames-append, outside-append}
 use Rattle.stream.proofs.Line.{at-last-add, silent, dropped, goes-on, closes, opens-goes-on, opens-closes}
-use Rattle.stream.proofs.Tally.{Moves, Counted, within-none, beyond-none}
+use Rattle.stream.proofs.Tally.{Moves, Tallied, within-none, beyond-none}
 
 -- the state s and the hold buffer h stand for the open bytes w: they are at the hold's front, or there are more than it has room for
 pub data Stands (s : FrameSplitter) (h w : List ℕ) : Type 0 where
@@ -190,7 +190,7 @@ module _ (s : FrameSplitter) (h c w : List ℕ) (i e : ℕ) (lo : i ≤ e) (hi :
       long-all : leb (length all) H ≡ false
       long-all = lt-leb (length all) H (rw (open-long n) t)
 
-      passes : Moves H (s .counts) w e i (all ∷ []) [] (passed s i e .counts)
+      passes : Moves H (s .counts) w e i (all ∷ []) [] (givenUp s i e .counts)
       passes =
           record {
             taken = refl;
@@ -214,7 +214,7 @@ module _ (s : FrameSplitter) (h c w : List ℕ) (i e : ℕ) (lo : i ≤ e) (hi :
     still-long : H < length all
     still-long = simp length-append (omega arith)
 
-    skips-past : Moves H (s .counts) w e i (all ∷ []) [] (passed s i e .counts)
+    skips-past : Moves H (s .counts) w e i (all ∷ []) [] (givenUp s i e .counts)
     skips-past =
         record {
           taken = refl;
@@ -260,7 +260,7 @@ module _ (s : FrameSplitter) (h c w : List ℕ) (i e : ℕ) (lo : i ≤ e) (hi :
       rw (open-long n, m, b) (record {
         says = refl;
         takes = refl;
-        stands = stands-between (passed s i e) h refl refl (passed-good g lo);
+        stands = stands-between (givenUp s i e) h refl refl (given-up-good g lo);
         size = refl;
         counts = passes l n (leb-false _ _ b);
       }))
@@ -268,7 +268,7 @@ module _ (s : FrameSplitter) (h c w : List ℕ) (i e : ℕ) (lo : i ≤ e) (hi :
       rw (m, lt-leb _ _ (still-long l n)) (record {
         says = refl;
         takes = refl;
-        stands = stands-between (passed s i e) h refl refl (passed-good g lo);
+        stands = stands-between (givenUp s i e) h refl refl (given-up-good g lo);
         size = refl;
         counts = skips-past l n;
       })
@@ -302,7 +302,7 @@ pub record Agrees (s : FrameSplitter) (h c w : List ℕ) (g : Given) : Type 0 wh
   pub stands : Stands (g .state) (g .hold) (opened w (take (g .taken) c))
   pub size : length (g .hold) ≡ length h
   pub moves : 0 < length c → 0 < g .taken
-  pub counts : Counted (length h) (s .counts) w (take (g .taken) c) (g .state .counts)
+  pub counts : Tallied (length h) (s .counts) w (take (g .taken) c) (g .state .counts)
 
 agree : (s : FrameSplitter) (h c w : List ℕ) (i : ℕ) (g : Given) (a : Said) (n : ℕ) (fs : List (List ℕ)) (w′ : List ℕ) → Does s h c w i g a n fs w′
     → n ≤ length c → hear (length h) w (take n c) ≡ atLast n a

@@ -12,10 +12,11 @@ use Rattle.general.proofs.Cases.{by-test}
 use Rattle.splitter.specs.declared.FrameSplitter.{FrameSplitter}
 use Rattle.splitter.specs.Feed.{new}
 use Rattle.stream.specs.Stream.{Call, Calls}
-use Rattle.stream.specs.Rust.{rustFrames, rustLeft}
+use Rattle.search.specs.First.{indexOf}
+use Rattle.stream.specs.Rust.{turns, rustFrames, rustLeft}
 use Rattle.stream.specs.Noise.{outside, within, beyond, sumOver, countsOver}
 use Rattle.stream.proofs.Line.{after, opened, frameAt, framesIn, begun}
-use Rattle.stream.proofs.Tally.{Counted, beyond-none}
+use Rattle.stream.proofs.Tally.{Tallied, beyond-none}
 use Rattle.stream.proofs.Stream.{Below, taken-below, follows-fresh}
 use Rattle.stream.proofs.Calls.{stands-fresh}
 use Rattle.stream.proofs.Rust.{line-frames, line-leaves}
@@ -32,7 +33,7 @@ module _ (b : List ℕ) where
 pub counts-are : {h b : List ℕ} {t : List Call} {s : FrameSplitter} {k : List ℕ} → Calls new h b t s k → s .counts ≡ countsOver (length h) b
 counts-are {h} {b} {s = s} c =
     let H = length h in
-    let f : Counted H (new .counts) [] b (s .counts) = follows-fresh c .counts in
+    let f : Tallied H (new .counts) [] b (s .counts) = follows-fresh c .counts in
     let fs = framesIn [] b in
     let taken : s .counts .taken ≡ length b = omega (arith, f .taken) in
     let dropped : s .counts .dropped ≡ outside false b = omega (arith, f .dropped) in
@@ -81,3 +82,17 @@ sum-of-four H b =
     let s = all-either H (framesIn [] b) in
     let o = either H (opened [] b) in
     rw (← frames-are b, ← left-is b) (omega arith)
+
+-- ---- two lines worked out
+
+-- a byte outside, a frame, a byte outside, a frame of four in a hold buffer of three, and a start that is open
+some-of-each :
+    countsOver 3 (0x00 ∷ 0xF0 ∷ 0xF1 ∷ 0x00 ∷ 0xF0 ∷ 0x00 ∷ 0x00 ∷ 0xF1 ∷ 0xF0 ∷ []) ≡
+    record { taken = 9; dropped = 2; framed = 2; lost = 4; held = 1 }
+unfolding turns indexOf
+some-of-each = refl
+
+-- an end outside is dropped; an open start that has outgrown the hold buffer is lost
+none-held : countsOver 1 (0xF1 ∷ 0xF0 ∷ 0x00 ∷ []) ≡ record { taken = 3; dropped = 1; framed = 0; lost = 2; held = 0 }
+unfolding turns indexOf
+none-held = refl

@@ -11,7 +11,7 @@ use lib.Seq.{take-take, length-take-le}
 use borrow.Author.Tests.{le-leb, lt-leb, le-ltb, ltb-false}
 use Rattle.general.proofs.Cases.{by-test}
 use Rattle.splitter.specs.declared.FrameSplitter.{FrameSplitter}
-use Rattle.splitter.specs.Feed.{Given, new, isFull, refuses, toldEvent, givenBy, more, overlong, frame}
+use Rattle.splitter.specs.Feed.{Given, new, isFull, refusedAs, toldEvent, givenBy, more, overlong, frame}
 use Rattle.splitter.proofs.Laws.{feed-full}
 use Rattle.error.specs.Refusal.{yes, no}
 use Rattle.stream.specs.Stream.{Said, saidOf, Call, Calls, done, next, takenBy, unlessMore, answers}
@@ -19,7 +19,7 @@ use Rattle.stream.specs.Heard.{atLast, heard, Alike}
 use Rattle.stream.specs.Noise.{within}
 use Rattle.stream.proofs.Line.{opened, hear, silence, hear-append, opened-append}
 use Rattle.stream.proofs.Calls.{Stands, fits, long, stands-fresh, stands-good, Agrees, one-call}
-use Rattle.stream.proofs.Tally.{Counted, counted-append, one-counted}
+use Rattle.stream.proofs.Tally.{Tallied, tallied-append, one-tallied}
 
 -- ---- the calls beside the line
 
@@ -55,7 +55,7 @@ taken-below {s} {h = h} {b = b} w k l (next n r h₁ e rest) =
     let c : List ℕ = take n b in
     by-test (isFull s (length c))
     (λ f.
-    let z : givenBy r h₁ ≡ refuses 13 s h = e ∙ feed-full s h c (stands-good k) f in
+    let z : givenBy r h₁ ≡ refusedAs 13 s h = e ∙ feed-full s h c (stands-good k) f in
     let state : r .splitter ≡ s = ap (λ (g : Given). g .state) z in
     let hold : h₁ ≡ h = ap (λ (g : Given). g .hold) z in
     let none : r .taken ≡ 0 = ap (λ (g : Given). g .taken) z in
@@ -78,14 +78,14 @@ pub record Follows (s₀ : FrameSplitter) (h w b : List ℕ) (t : List Call) (s 
   pub plain : Plain t
   pub stands : Stands s h′ (opened w b)
   pub size : length h′ ≡ length h
-  pub counts : Counted (length h) (s₀ .counts) w b (s .counts)
+  pub counts : Tallied (length h) (s₀ .counts) w b (s .counts)
 
 -- nothing is taken, and what is held is the open bytes, where they fit
 held-is : {s : FrameSplitter} {h w : List ℕ} → Stands s h w → s .counts .held ≡ within (length h) w
 held-is (fits l n m k g) = rw (le-leb _ _ l) (g .held ∙ n)
 held-is (long l n m g) = rw (lt-leb _ _ l) (g .held ∙ n)
 
-no-moves : {s : FrameSplitter} {h w : List ℕ} → Stands s h w → Counted (length h) (s .counts) w [] (s .counts)
+no-moves : {s : FrameSplitter} {h w : List ℕ} → Stands s h w → Tallied (length h) (s .counts) w [] (s .counts)
 no-moves k = record { taken = omega arith; dropped = omega arith; framed = omega arith; lost = omega arith; held = held-is k }
 
 pub follows : {s s′ : FrameSplitter} {h h′ b : List ℕ} {t : List Call} (w : List ℕ) → Stands s h w → Below s b → Calls s h b t s′ h′ → Follows s h w b t s′ h′
@@ -101,7 +101,7 @@ follows {s} {h = h} {b = b} w k l (next {t = t} n r h₁ e rest) =
     let long : r .taken ≤ length b = omega (arith, a .within, length-take n b) in
     let size : length m ≡ r .taken = length-take-le (r .taken) b long in
     let all : m ++ d ≡ b = take-append-drop (r .taken) b in
-    let counts : Counted (length h) (s .counts) w m (r .splitter .counts) = rw same at (a .counts) in
+    let counts : Tallied (length h) (s .counts) w m (r .splitter .counts) = rw same at (a .counts) in
     let l′ : Below (r .splitter) d = rest-below s (r .splitter) b (r .taken) long (rw size at (counts .taken)) l in
     let f = follows (opened w m) (rw same at (a .stands)) l′ rest in
     record {
@@ -110,7 +110,7 @@ follows {s} {h = h} {b = b} w k l (next {t = t} n r h₁ e rest) =
       plain = (λ z. only-more said (ap (λ (x : ℕ). atLast x said) (sym (ap length z) ∙ size) ∙ a .heard ∙ ap (hear (length h) w) (same ∙ z)), f .plain);
       stands = rw (ap (opened w) (sym all) ∙ opened-append w m d) (f .stands);
       size = f .size ∙ a .size;
-      counts = rw all at (counted-append (length h) w m d counts (rw (a .size) at (f .counts)));
+      counts = rw all at (tallied-append (length h) w m d counts (rw (a .size) at (f .counts)));
     }
 
 -- from fresh
@@ -171,7 +171,7 @@ any-cutting {h₁} {h₂} {b} {t₁} {t₂} {s₁} {s₂} {k₁} {k₂} e c₁ c
       state = λ i. record {
         count = (rw n at (stands-count (f₁ .stands)) ∙ sym (stands-count (f₂ .stands))) i;
         skipping = (rw n at (stands-mark (f₁ .stands)) ∙ sym (stands-mark (f₂ .stands))) i;
-        counts = one-counted (length h₂) [] b (rw e at (f₁ .counts)) (f₂ .counts) i;
+        counts = one-tallied (length h₂) [] b (rw e at (f₁ .counts)) (f₂ .counts) i;
       };
       held = rw n at (stands-held (f₁ .stands)) ∙ sym (stands-held (f₂ .stands));
     }

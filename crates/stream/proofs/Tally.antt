@@ -1,5 +1,5 @@
--- What the counts k become over some bytes: `Moves` by the frames that end in them and the bytes outside, `Counted` by the line.
--- Two stretches, one behind the other, count as one (`counted-append`).
+-- What the counts k become over some bytes: `Moves` by the frames that end in them and the bytes outside, `Tallied` by the line.
+-- Two stretches, one behind the other, count as one (`tallied-append`).
 use mathlib.Core.Path.{_≡_, sym, _∙_}
 use mathlib.Core.List.{List, [], _∷_, _++_}
 use Prim.Native.Nat.{ℕ, _+_}
@@ -22,8 +22,8 @@ module _ (H : ℕ) where
     pub held : k′ .held ≡ within H w′
 
   -- over the bytes b of a line
-  abbrev pub Counted : Counts → List ℕ → List ℕ → Counts → Type 0
-  Counted k w b k′ = Moves k w (length b) (outside (begun w) b) (framesIn w b) (opened w b) k′
+  abbrev pub Tallied : Counts → List ℕ → List ℕ → Counts → Type 0
+  Tallied k w b k′ = Moves k w (length b) (outside (begun w) b) (framesIn w b) (opened w b) k′
 
   -- nothing is neither held nor lost
   pub within-none : within H [] ≡ 0
@@ -36,8 +36,8 @@ module _ (H : ℕ) where
   sum-append f [] b = omega arith
   sum-append f (w ∷ a) b = let r = sum-append f a b in omega arith
 
-  pub counted-append : {k k′ k″ : Counts} (w x y : List ℕ) → Counted k w x k′ → Counted k′ (opened w x) y k″ → Counted k w (x ++ y) k″
-  counted-append w x y p q =
+  pub tallied-append : {k k′ k″ : Counts} (w x y : List ℕ) → Tallied k w x k′ → Tallied k′ (opened w x) y k″ → Tallied k w (x ++ y) k″
+  tallied-append w x y p q =
       let v = opened w x in
       let fs = framesIn w x in
       let gs = framesIn v y in
@@ -51,8 +51,8 @@ module _ (H : ℕ) where
       })
 
   -- the counts then are decided
-  pub one-counted : {k k₁ k₂ : Counts} (w b : List ℕ) → Counted k w b k₁ → Counted k w b k₂ → k₁ ≡ k₂
-  one-counted {k} {k₁} {k₂} w b p q =
+  pub one-tallied : {k k₁ k₂ : Counts} (w b : List ℕ) → Tallied k w b k₁ → Tallied k w b k₂ → k₁ ≡ k₂
+  one-tallied {k} {k₁} {k₂} w b p q =
       let lost : k₁ .lost ≡ k₂ .lost = omega (arith, p .lost, q .lost) in
       λ i. record {
         taken = (p .taken ∙ sym (q .taken)) i;

@@ -12,8 +12,8 @@ use Rattle.error.specs.Refusal.{onYes}
 use Rattle.splitter.specs.declared.Event.{Event}
 use Rattle.splitter.specs.declared.FrameSplitter.{FrameSplitter}
 use Rattle.splitter.specs.declared.Place.{Place}
-use Rattle.splitter.specs.Feed.{Answer, Given, refuses, toldEvent, feedRule}
-use Rattle.abi.proofs.Passing as passing
+use Rattle.splitter.specs.Feed.{Answer, Given, refusedAs, toldEvent, feedRule}
+use Rattle.abi.proofs.Passing.{passed, refuses}
 use Rattle.abi_splitter.specs.Fed.{wordsOf, stateOf, feedFrom, fedOf, leftBy}
 use Rattle.abi_splitter.proofs.mvd_feed.Statement.{statement}
 use Rattle.abi_splitter.proofs.mvd_feed.Tie as tie
@@ -24,7 +24,7 @@ module _ (words hold chunk : List ℕ) where
   unfolding feedFrom
   goes h = rw (le-ltb 1 (getD words 1 0) (omega arith))
 
-  stays : 2 ≤ getD words 1 0 → refuses 9 (stateOf words) hold ≡ feedFrom words hold chunk
+  stays : 2 ≤ getD words 1 0 → refusedAs 9 (stateOf words) hold ≡ feedFrom words hold chunk
   unfolding feedFrom
   stays h = rw (lt-ltb 1 (getD words 1 0) (omega arith))
 
@@ -74,7 +74,7 @@ unfolding fedOf
 returns c =
     let t = c .before .before in
     let f = t .before .before .before .before .before in
-    (rw (c .words-of .ensures) (passing.passed (left f (t .enum-told .given .1)) _ _), held f)
+    (rw (c .words-of .ensures) (passed (left f (t .enum-told .given .1)) _ _), held f)
 
 enum-known-event : tie.Need-enum-known-event
 enum-known-event c = search needs
@@ -96,7 +96,7 @@ unfolding fedOf
 returns-2 c =
     let t = c .before .before .before .before in
     let f = t .before .before .before .before .before in
-    (rw (c .words-of2 .ensures, c .before .before .flag .ensures) (passing.passed (left f (t .event .given .1)) _ _), held f)
+    (rw (c .words-of2 .ensures, c .before .before .flag .ensures) (passed (left f (t .event .given .1)) _ _), held f)
 
 enum-told-2 : tie.Need-enum-told-2
 enum-told-2 c = search needs
@@ -112,7 +112,7 @@ unfolding fedOf
 returns-3 c =
     let t = c .before .before in
     let f = t .before .before .before .before .before in
-    (rw (c .words-of3 .ensures) (passing.passed (left f (t .enum-told2 .given .1)) _ _), held f)
+    (rw (c .words-of3 .ensures) (passed (left f (t .enum-told2 .given .1)) _ _), held f)
 
 enum-known-event-2 : tie.Need-enum-known-event-2
 enum-known-event-2 c = search needs
@@ -128,7 +128,7 @@ returns-4 c =
     let t = c .before .before .before in
     let f = t .before .before .before .before .before in
     let e = t .event2 .given in
-    (passing.refuses (e .0 .0) (left f (e .1)) _ _ (c .tell .ensures), held f)
+    (refuses (e .0 .0) (left f (e .1)) _ _ (c .tell .ensures), held f)
 
 tell-requires-2 : tie.Need-tell-requires-2
 tell-requires-2 c κs = search needs
@@ -138,7 +138,7 @@ returns-5 c =
     let i = c .before .before in
     let a = i .before .before .before .before .args in
     let g = stays (a .splitter .now) (a .hold .now) (a .chunk .now) (i .if1 .left) in
-    (passing.refuses BadState (ap leftBy g) _ _ (c .tell2 .ensures), ap (λ (w : Given). w .hold) g)
+    (refuses BadState (ap leftBy g) _ _ (c .tell2 .ensures), ap (λ (w : Given). w .hold) g)
 
 pub mvd-feed-spec : {M : Type 1} → statement M
 mvd-feed-spec =
