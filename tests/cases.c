@@ -374,10 +374,23 @@ static void split(struct question *q) {
     end_split(&s);
 }
 
+/* A case has one byte of a mark, and the state eight: a bit behind the first byte makes any mark a bad one. */
+static void wide_marks(const struct mvd_splitter *given, size_t room, const uint8_t *chunk, size_t len) {
+    struct splitter s;
+    struct told t;
+    for (int bit = 8; bit < 64; bit += 11) {
+        struct mvd_splitter wide = *given;
+        wide.skipping |= (uint64_t)1 << bit;
+        start(&s, &wide, room);
+        check(offer(&s, chunk, len, &t) == MVD_BAD_STATE, "a mark of more than one byte was taken");
+    }
+}
+
 /* A state that the case gives: the chunk is offered to it, or it is refused. */
 static void offer_state(struct question *q, const struct mvd_splitter *given, const uint8_t *chunk, size_t len) {
     struct splitter s;
     struct told t;
+    wide_marks(given, lent_length(q->b >> 8), chunk, len);
     start(&s, given, lent_length(q->b >> 8));
     if (told(offer(&s, chunk, len, &t), &t, NULL, 0)) end_split(&s);
     else end();
