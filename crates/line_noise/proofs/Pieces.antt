@@ -1,6 +1,6 @@
 -- A whole piece: what holds after each call of the splitter, from the first to the last.
 -- `Going` is the invariant of that loop; where all is taken it is the rule's own answer (`finished`).
-use Prim.Native.Nat.{ℕ, zero, suc, _+_, _-_, _^_, _<_, _≤_}
+use Prim.Native.Nat.{ℕ, zero, suc, _+_, _-_, _<_, _≤_}
 use mathlib.Core.Path.{_≡_, refl, sym, ap, _∙_}
 use mathlib.Core.Bool.{false}
 use mathlib.Core.List.{List, [], _∷_}
@@ -8,10 +8,9 @@ use native.Mathlib.Nat.{not-suc-le-zero}
 use native.Mathlib.Omega.{arith}
 use lib.ListN.{length, drop, length-drop, drop-of-length-le}
 use lib.Seq.{drop-drop}
-use borrow.Author.Tests.{le-ltb, ltb-false}
 use Rattle.splitter.specs.declared.Fed.{Fed}
 use Rattle.splitter.specs.Feed.{Given, isBad, isFull, givenBy}
-use Rattle.splitter.proofs.Laws.{good-after, taken-after}
+use Rattle.splitter.proofs.Laws.{good-after, free-after}
 use Rattle.stream.proofs.Ends.{feed-within, feed-moves}
 use Rattle.line_noise.specs.Piece.{Between, between, offered, afterOffer, wholly}
 
@@ -34,12 +33,10 @@ pub record Open (t : Between) (n : ℕ) : Type 0 where
 pub open-after : (t : Between) (c : List ℕ) → Open t (length c) → length (offered t c .hold) ≡ length (t .hold)
     → Open (afterOffer t c) (length (drop (offered t c .taken) c))
 open-after t c o size =
-    let within = feed-within (t .splitter) (t .hold) c in
-    let counted = taken-after (t .splitter) (t .hold) c (o .good) (o .free) in
-    let room : t .splitter .counts .taken + length c ≤ 2 ^ 64 - 1 = ltb-false _ _ (o .free) in
-    let rest : length (drop (offered t c .taken) c) ≡ length c - offered t c .taken = length-drop (offered t c .taken) c in
-    let left : afterOffer t c .splitter .counts .taken + length (drop (offered t c .taken) c) ≤ 2 ^ 64 - 1 = omega (arith, within, counted, room, rest) in
-    record { good = rw size (good-after (t .splitter) (t .hold) c (o .good)); free = le-ltb _ _ left }
+    record {
+      good = rw size (good-after (t .splitter) (t .hold) c (o .good));
+      free = free-after (t .splitter) (t .hold) c (o .good) (feed-within (t .splitter) (t .hold) c) (o .free);
+    }
 
 -- ---- the loop over a piece c, from t₀
 

@@ -1,6 +1,6 @@
 -- What the program `noise` prints are the five counts of the bytes that it read, by what request 6 means by each, however they are cut.
 -- `prints` says which lines, `prints-none` when there are none, `any-cut` that two cuttings print the same: of any run that the contracts allow.
-use Prim.Native.Nat.{ℕ, zero, suc, _+_, _-_, _^_, _<_, _≤_}
+use Prim.Native.Nat.{ℕ, zero, suc, _+_, _^_, _<_, _≤_}
 use mathlib.Core.Path.{_≡_, refl, sym, ap, _∙_, subst}
 use mathlib.Core.Bool.{false}
 use mathlib.Core.List.{List, [], _∷_, _++_, append-assoc}
@@ -13,6 +13,7 @@ use Rattle.error.specs.Refusal.{yes, no}
 use Rattle.splitter.specs.declared.Counts.{Counts}
 use Rattle.splitter.specs.Feed.{Given, new, isBad, isFull}
 use Rattle.splitter.proofs.One.{fedOf}
+use Rattle.splitter.proofs.Laws.{can-take}
 use Rattle.stream.specs.Stream.{Call, Calls, Feeds, joined}
 use Rattle.stream.specs.Stream as stream
 use Rattle.stream.specs.Noise.{countsOver}
@@ -92,7 +93,7 @@ module _ {h : List ℕ} {cs : List (List ℕ)} {t : Between} (p : Pieces (first 
   pub not-refused : (c : List ℕ) → length (joined cs) + length c < 2 ^ 64 → isFull (t .splitter) (length c) ≡ false
   not-refused c l =
       let n : t .splitter .counts .taken ≡ length (joined cs) = ap (λ (k : Counts). k .taken) counts-after in
-      le-ltb (2 ^ 64 - 1) (t .splitter .counts .taken + length c) (omega arith)
+      can-take (t .splitter) (length c) (length c) (omega arith) (omega arith)
 
 lines-shown : {l : List Shown} {text : List ℕ} → Lines l text → text ≡ textOver l
 lines-shown program.Lines.none = refl

@@ -1,6 +1,6 @@
 -- A whole piece: what holds after each call of the splitter, from the first to the last.
 -- `Going` is the invariant of that loop; where all is taken it is the rule's own answer (`finished`).
-use Prim.Native.Nat.{ℕ, zero, suc, _+_, _-_, _*_, _^_, _<_, _≤_}
+use Prim.Native.Nat.{ℕ, zero, suc, _+_, _-_, _*_, _<_, _≤_}
 use mathlib.Core.Path.{_≡_, refl, sym, ap, _∙_}
 use mathlib.Core.Bool.{false}
 use mathlib.Core.List.{List, [], _∷_, _++_, append-assoc, append-nil}
@@ -8,10 +8,9 @@ use native.Mathlib.Nat.{not-suc-le-zero}
 use native.Mathlib.Omega.{arith}
 use lib.ListN.{length, take, drop, length-append, length-drop, drop-of-length-le}
 use lib.Seq.{drop-drop, take-all, take-at, drop-at}
-use borrow.Author.Tests.{le-ltb, ltb-false}
 use Rattle.error.specs.Refusal.{yes}
 use Rattle.splitter.specs.Feed.{isBad, isFull}
-use Rattle.splitter.proofs.Laws.{good-after, taken-after}
+use Rattle.splitter.proofs.Laws.{good-after, free-after}
 use Rattle.stream.proofs.Ends.{feed-within, feed-moves}
 use Rattle.session.specs.declared.Step.{Step}
 use Rattle.session.specs.Piece.{Stage, stage, fed, stageAfter, Work, work, behind, works, done, allLines, eventText}
@@ -93,16 +92,12 @@ module _ (t₀ : Stage) (c out₀ : List ℕ) where
           omega arith
 
       -- what is taken is counted, so that the rest is not refused either
-      free-after : isFull (r .session .splitter) (length (drop (at + r .taken) c)) ≡ false
-      free-after =
+      still-free : isFull (r .session .splitter) (length (drop (at + r .taken) c)) ≡ false
+      still-free =
           let s₀ = t .session .splitter in
-          let s₁ = r .session .splitter in
-          let state : s₁ ≡ fed t (drop at c) .state = ap (λ (y : Stage). y .session .splitter) (s .after) in
-          let counted : s₁ .counts .taken ≡ s₀ .counts .taken + r .taken =
-          rw (state, s .taken) (taken-after s₀ (t .hold) (drop at c) (g .good) (g .free)) in
-          let most : s₀ .counts .taken + length (drop at c) ≤ 2 ^ 64 - 1 = ltb-false _ _ (g .free) in
-          le-ltb (2 ^ 64 - 1) (s₁ .counts .taken + length (drop (at + r .taken) c))
-          (omega (arith, length-drop at c, length-drop (at + r .taken) c, inside))
+          let state : r .session .splitter ≡ fed t (drop at c) .state = ap (λ (y : Stage). y .session .splitter) (s .after) in
+          rw (state, ← drop-drop (r .taken) at c, s .taken)
+          (free-after s₀ (t .hold) (drop at c) (g .good) (feed-within s₀ (t .hold) (drop at c)) (g .free))
 
       abbrev later : ℕ → Work
       later k = works k (stage (r .session) hold) (drop (at + r .taken) c)
@@ -148,7 +143,7 @@ module _ (t₀ : Stage) (c out₀ : List ℕ) where
                 bytes = lent k l;
                 few = omega (arith, g .few, s .line .count, s .line .short, moves);
                 good = rw (eh, ap (λ (y : Stage). y .session .splitter) (s .after)) (good-after (t .session .splitter) (t .hold) (drop at c) (g .good));
-                free = free-after;
+                free = still-free;
                 held = eh ∙ g .held;
               }
 

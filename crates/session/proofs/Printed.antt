@@ -18,6 +18,7 @@ use Rattle.stream.specs.Stream as stream
 use Rattle.stream.specs.Rust.{rustFrames, rustLeft}
 use Rattle.stream.proofs.Calls.{Stands, fits, long, stands-fresh, stands-good, Agrees, one-call}
 use Rattle.splitter.proofs.One.{fedOf}
+use Rattle.splitter.proofs.Laws.{CanCount, can-take, counts-on}
 use Rattle.stream.proofs.Ends.{allowed, feeds-calls}
 use Rattle.stream.proofs.Stream.{follows-fresh}
 use Rattle.stream.proofs.Rust.{as-the-rust, line-leaves}
@@ -28,7 +29,7 @@ use Rattle.session.specs.Piece.{Stage, stage, fed, said, stageAfter, eve
 use Rattle.session.specs.Piece.{Work, work, behind, works, roomFor, Done, pieceRule, frontOf, doneBy}
 use Rattle.session.specs.Program.{first, Pieces, Run}
 use Rattle.session.specs.Program as program
-use Rattle.session.proofs.Rules.{piece-fits, CanCount, can-take, counts-on}
+use Rattle.session.proofs.Rules.{piece-fits}
 
 -- an answer's line, in front of those of the answers after it
 said-first : (n : ℕ) (a : Said) (l : List Said) → lineTo n a ++ linesOf (numberTo n a) l ≡ linesOf n (unlessMore a ++ l)
@@ -73,13 +74,13 @@ record Traced (t : Stage) (cs : List (List ℕ)) (w : Work) : Type 0 where
 
 -- what comes after a piece, wherever the work then stands
 abbrev After : Stage → List (List ℕ) → Work → Type 0
-After t cs w = (v : List ℕ) → Stands (t .session .splitter) (t .hold) v → CanCount t (length (joined cs)) → Traced t cs w
+After t cs w = (v : List ℕ) → Stands (t .session .splitter) (t .hold) v → CanCount (t .session .splitter) (length (joined cs)) → Traced t cs w
 
 past : {t : Stage} {cs : List (List ℕ)} {w : Work} → Traced t cs w → Traced t ([] ∷ cs) w
 past r = record { trace = r .trace; feeds = stream.Feeds.used (r .feeds); text = r .text }
 
 one-piece : (k : ℕ) (t : Stage) (c : List ℕ) (cs : List (List ℕ)) (w : Work) (v : List ℕ) → Stands (t .session .splitter) (t .hold) v → length c ≤ k
-    → CanCount t (length c + length (joined cs)) → After (works k t c .stage) cs w → Traced t (c ∷ cs) (behind (works k t c .text) w)
+    → CanCount (t .session .splitter) (length c + length (joined cs)) → After (works k t c .stage) cs w → Traced t (c ∷ cs) (behind (works k t c .text) w)
 unfolding works
 one-piece zero t [] cs w v s l n rest = past (rest v s (omega arith))
 one-piece zero t (b ∷ c) cs w v s l n rest = absurd (not-suc-le-zero l)
@@ -87,11 +88,11 @@ one-piece (suc k) t [] cs w v s l n rest = past (rest v s (omega arith))
 one-piece (suc k) t (b ∷ c) cs w v s l count rest =
     let d : List ℕ = b ∷ c in
     let g : Given = fed t d in
-    let free = can-take t (length d) (length (joined cs)) count in
+    let free = can-take (t .session .splitter) (length d) (length d + length (joined cs)) (omega arith) count in
     let a : Agrees (t .session .splitter) (t .hold) d v g = one-call v d s free in
     let t′ : Stage = stageAfter t d in
     let le : length (drop (g .taken) d) ≤ k = rw (length-drop (g .taken) d) (omega (arith, a .moves (omega arith))) in
-    let count′ = counts-on t d (length (joined cs)) (stands-good s) (a .within) count in
+    let count′ = counts-on (t .session .splitter) (t .hold) d (stands-good s) (a .within) (length (joined cs)) count in
     let r : Traced t′ (drop (g .taken) d ∷ cs) (behind (works k t′ (drop (g .taken) d) .text) w) =
     one-piece k t′ (drop (g .taken) d) cs w _ (a .stands) le count′ rest
     in
@@ -111,8 +112,8 @@ one-piece (suc k) t (b ∷ c) cs w v s l count rest =
 traced : {t t′ : Stage} {cs : List (List ℕ)} {text : List ℕ} → Pieces t cs text t′ → After t cs (work text t′)
 traced program.Pieces.done v s n = record { trace = []; feeds = stream.Feeds.done; text = refl }
 traced {t} {t′} (program.Pieces.piece {c = c} {cs = cs} {text = text} out r h out′ room e rest) v s n =
-    let count : CanCount t (length c + length (joined cs)) = rw (length-append c (joined cs)) at n in
-    let d = piece-does t c out r h out′ e (stands-good s) (can-take t (length c) (length (joined cs)) count) room in
+    let count : CanCount (t .session .splitter) (length c + length (joined cs)) = rw (length-append c (joined cs)) at n in
+    let d = piece-does t c out r h out′ e (stands-good s) (can-take (t .session .splitter) (length c) (length c + length (joined cs)) (omega arith) count) room in
     let after : After (works (length c) t c .stage) cs (work text t′) = subst (λ (y : Stage). After y cs (work text t′)) (d .1) (λ v′ s′ n′. traced rest v′ s′ n′) in
     rw (d .0) (one-piece (length c) t c cs (work text t′) v s (omega arith) count after)
 

@@ -1,16 +1,15 @@
 -- Which case of the piece's rule holds, by the splitter's state, by its counts and by the room.
 -- One of the four holds for every input: 9, 13, 8, or all of the piece is taken.
-use Prim.Native.Nat.{ℕ, _+_, _-_, _*_, _^_, _<_, _≤_}
+use Prim.Native.Nat.{ℕ, _*_, _^_, _<_, _≤_}
 use mathlib.Core.Path.{_≡_}
 use mathlib.Core.Bool.{true, false}
 use mathlib.Core.List.{List, [], _∷_}
 use native.Mathlib.Omega.{arith}
-use lib.ListN.{length, drop, length-drop}
+use lib.ListN.{length}
 use borrow.Author.Tests.{lt-ltb, le-ltb}
 use Rattle.error.specs.Refusal.{no}
 use Rattle.splitter.specs.Feed.{isBad, isFull}
-use Rattle.splitter.proofs.Laws.{taken-after}
-use Rattle.session.specs.Piece.{Stage, fed, stageAfter, roomFor, done, allLines, pieceRule}
+use Rattle.session.specs.Piece.{Stage, roomFor, done, allLines, pieceRule}
 
 module _ (t : Stage) (c out : List ℕ) where
   pub piece-bad : isBad (t .session .splitter) (length (t .hold)) ≡ true → done (no 9 []) t out ≡ pieceRule t c out
@@ -34,18 +33,3 @@ module _ (t : Stage) (c out : List ℕ) where
 -- a slice of bytes is shorter than 2 ^ 63, so a room that is there is not the largest usize
 pub room-is : (n room : ℕ) → room * 1 < 2 ^ 63 → roomFor n ≤ room → 128 * n ≤ room
 room-is n room l h = omega arith
-
--- ---- what can still be counted
-
-abbrev pub CanCount : Stage → ℕ → Type 0
-CanCount t n = t .session .splitter .counts .taken + n < 2 ^ 64
-
-pub can-take : (t : Stage) (m n : ℕ) → CanCount t (m + n) → isFull (t .session .splitter) m ≡ false
-can-take t m n b = le-ltb (2 ^ 64 - 1) (t .session .splitter .counts .taken + m) (omega arith)
-
--- what a call takes is counted: the rest, and what comes behind it, still can be
-pub counts-on : (t : Stage) (c : List ℕ) (n : ℕ) → isBad (t .session .splitter) (length (t .hold)) ≡ false → fed t c .taken ≤ length c
-    → CanCount t (length c + n) → CanCount (stageAfter t c) (length (drop (fed t c .taken) c) + n)
-counts-on t c n good within b =
-    let counted = taken-after (t .session .splitter) (t .hold) c good (can-take t (length c) n b) in
-    rw (length-drop (fed t c .taken) c) (omega (arith, counted, within, b))

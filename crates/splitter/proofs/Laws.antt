@@ -7,7 +7,7 @@ use Prim.Native.Nat.{ℕ, _+_, _-_, _^_, _≤_, _<_, zero-le}
 use native.Mathlib.Omega.{arith}
 use native.Mathlib.Nat.{zero-add, add-zero}
 use lib.Dec.{eqb, leb, ltb}
-use lib.ListN.{length, take, getD, set, replicate}
+use lib.ListN.{length, take, drop, getD, set, replicate, length-drop}
 use lib.Seq.{take-length, take-at, sets, sets-eq, paste, paste-zero, paste-suc}
 use borrow.Author.Tests.{eq-eqb, ne-eqb, lt-ltb, le-ltb, le-leb, ltb-false, leb-true, leb-false, eqb-true, not-true, not-false}
 use Rattle.general.proofs.Cases.{by-test, by-lt}
@@ -73,6 +73,16 @@ module _ (k : Counts) (n : ℕ) where
 and-true : (a b : Bool) → a && b ≡ true → (a ≡ true) × (b ≡ true)
 and-true true b e = (refl, e)
 and-true false b e = let z : false ≡ true = e in (z, cc)
+
+-- n bytes more can be counted: so a chunk of as many, or of fewer, is not refused
+abbrev pub CanCount : FrameSplitter → ℕ → Type 0
+CanCount s n = s .counts .taken + n < 2 ^ 64
+
+pub can-take : (s : FrameSplitter) (m n : ℕ) → m ≤ n → CanCount s n → isFull s m ≡ false
+can-take s m n l b = le-ltb (2 ^ 64 - 1) (s .counts .taken + m) (omega arith)
+
+pub can-count : (s : FrameSplitter) (n : ℕ) → isFull s n ≡ false → CanCount s n
+can-count s n f = let k : s .counts .taken + n ≤ 2 ^ 64 - 1 = ltb-false _ _ f in omega arith
 
 -- a frame that is kept has no mark, and fits
 pub kept-is : (s : FrameSplitter) (H n : ℕ) → isKept s H n ≡ true → (s .skipping ≡ false) × (lengthWith s n ≤ H)
@@ -153,8 +163,7 @@ is-good s H g =
 pub room-for : (s : FrameSplitter) (H n : ℕ) → isBad s H ≡ false → isFull s n ≡ false → (e : ℕ) → e ≤ n → Room s e
 room-for s H n good free e l =
     let g = good-is s H good in
-    let k : s .counts .taken + n ≤ 2 ^ 64 - 1 = ltb-false _ _ free in
-    record { sum = rw (g .held) at (g .sum); below = omega arith }
+    record { sum = rw (g .held) at (g .sum); below = omega (arith, can-count s n free) }
 
 module _ (s : FrameSplitter) (h c : List ℕ) where
   pub feed-bad : isBad s (length h) ≡ true → feedRule s h c ≡ refusedAs 9 s h
@@ -243,3 +252,17 @@ module _ (s : FrameSplitter) (h c : List ℕ) (good : isBad s (length h) ≡ fal
 
   pub taken-after : isFull s (length c) ≡ false → feedRule s h c .state .counts .taken ≡ s .counts .taken + feedRule s h c .taken
   taken-after f = next-state f .takes
+
+  -- what a call takes is counted: so the rest of its chunk, and n bytes behind it, can still be
+  module _ (within : feedRule s h c .taken ≤ length c) where
+    pub counts-on : (n : ℕ) → CanCount s (length c + n) → CanCount (feedRule s h c .state) (length (drop (feedRule s h c .taken) c) + n)
+    counts-on n b =
+        let t = taken-after (can-take s (length c) (length c + n) (omega arith) b) in
+        rw (length-drop (feedRule s h c .taken) c) (omega (arith, t, within, b))
+
+    pub free-after : isFull s (length c) ≡ false → isFull (feedRule s h c .state) (length (drop (feedRule s h c .taken) c)) ≡ false
+    free-after f =
+        let b : CanCount s (length c + 0) = omega (arith, can-count s (length c) f) in
+        let g = feedRule s h c in
+        let n = length (drop (g .taken) c) in
+        can-take (g .state) n (n + 0) (omega arith) (counts-on 0 b)

@@ -15,11 +15,11 @@ use Rattle.splitter.specs.declared.FrameSplitter.{FrameSplitter}
 use Rattle.search.specs.First.{indexOf}
 use Rattle.search.proofs.First.{found, index-le}
 use Rattle.splitter.specs.Feed.{Given, new, isBad, isFull, startIn, part, laid, ends, goesOn, feedRule, lengthWith, more}
-use Rattle.splitter.specs.Feed.{handed, givenUp, holding, marked}
+use Rattle.splitter.specs.Feed.{counted, handed, givenUp, holding, marked}
 use Rattle.error.specs.Refusal.{yes}
 use Rattle.stream.specs.Stream.{Said, saidOf, answerTo}
 use Rattle.stream.specs.Heard.{atLast}
-use Rattle.stream.specs.Noise.{outside}
+use Rattle.stream.specs.Noise.{outside, within, beyond, sumOver}
 use Rattle.splitter.proofs.Laws.{Good, is-good, handed-good, given-up-good, holding-good, marked-good, feed-ends, feed-goes-on}
 use Rattle.stream.proofs.Line.{opened, hear, framesIn, begun, silence, hear-append, opened-append, frames-append, outside-append}
 use Rattle.stream.proofs.Line.{at-last-add, silent, dropped, goes-on, closes, opens-goes-on, opens-closes}
@@ -159,8 +159,14 @@ module _ (s : FrameSplitter) (h c w : List ℕ) (i e : ℕ) (lo : i ≤ e) (hi :
     laid-long : length (laid h (s .count) (part c i e)) ≡ H
     laid-long = rw (laid-is, length-append all (drop (lengthWith s (e - i)) h), open-long n, length-drop) (omega arith)
 
-  -- ---- its counts, by whether the frame's bytes before it, and those up to here, are no more than H
+  -- ---- its counts: what is handed over now, what is lost and what is held, by the frames that end and the bytes left open
 
+  moves : (fs : List (List ℕ)) (w′ : List ℕ) (framed lost held : ℕ) → framed ≡ sumOver (within H) fs
+      → lost + beyond H w ≡ sumOver (beyond H) fs + beyond H w′ → held ≡ within H w′ → Moves H (s .counts) w e i fs w′ (counted s i e framed lost held)
+  moves fs w′ framed lost held f l k =
+      record { taken = refl; dropped = refl; framed = ap (λ (n : ℕ). s .counts .framed + n) f; lost = omega (arith, l); held = k }
+
+  -- by whether the frame's bytes before it, and those up to here, are no more than H
   module _ (l : length w ≤ H) (n : s .count ≡ length w) where
     module _ (t : lengthWith s (e - i) ≤ H) where
       fits-all : leb (length all) H ≡ true
@@ -168,23 +174,11 @@ module _ (s : FrameSplitter) (h c w : List ℕ) (i e : ℕ) (lo : i ≤ e) (hi :
 
       hands : Moves H (s .counts) w e i (all ∷ []) [] (handed s i e .counts)
       hands =
-          record {
-            taken = refl;
-            dropped = refl;
-            framed = rw (fits-all, open-long n) (omega arith);
-            lost = rw (fits-all, le-leb _ _ l, beyond-none H) (omega arith);
-            held = sym (within-none H);
-          }
+          moves (all ∷ []) [] (lengthWith s (e - i)) 0 0 (rw (fits-all, open-long n) (omega arith)) (rw (fits-all, le-leb _ _ l, beyond-none H))
+          (sym (within-none H))
 
       holds : Moves H (s .counts) w e i [] all (holding s i e .counts)
-      holds =
-          record {
-            taken = refl;
-            dropped = refl;
-            framed = refl;
-            lost = rw (fits-all, le-leb _ _ l) (omega arith);
-            held = rw (fits-all, open-long n);
-          }
+      holds = moves [] all 0 0 (lengthWith s (e - i)) refl (rw (fits-all, le-leb _ _ l)) (rw (fits-all, open-long n))
 
     module _ (t : H < lengthWith s (e - i)) where
       long-all : leb (length all) H ≡ false
@@ -192,23 +186,11 @@ module _ (s : FrameSplitter) (h c w : List ℕ) (i e : ℕ) (lo : i ≤ e) (hi :
 
       passes : Moves H (s .counts) w e i (all ∷ []) [] (givenUp s i e .counts)
       passes =
-          record {
-            taken = refl;
-            dropped = refl;
-            framed = rw long-all (omega arith);
-            lost = rw (long-all, le-leb _ _ l, beyond-none H, open-long n) (omega arith);
-            held = sym (within-none H);
-          }
+          moves (all ∷ []) [] 0 (lengthWith s (e - i)) 0 (rw long-all) (rw (long-all, le-leb _ _ l, beyond-none H, open-long n) (omega arith))
+          (sym (within-none H))
 
       marks : Moves H (s .counts) w e i [] all (marked s i e .counts)
-      marks =
-          record {
-            taken = refl;
-            dropped = refl;
-            framed = refl;
-            lost = rw (long-all, le-leb _ _ l, open-long n) (omega arith);
-            held = rw long-all;
-          }
+      marks = moves [] all 0 (lengthWith s (e - i)) 0 refl (rw (long-all, le-leb _ _ l, open-long n) (omega arith)) (rw long-all)
 
   module _ (l : H < length w) (n : s .count ≡ 0) where
     still-long : H < length all
@@ -216,23 +198,12 @@ module _ (s : FrameSplitter) (h c w : List ℕ) (i e : ℕ) (lo : i ≤ e) (hi :
 
     skips-past : Moves H (s .counts) w e i (all ∷ []) [] (givenUp s i e .counts)
     skips-past =
-        record {
-          taken = refl;
-          dropped = refl;
-          framed = rw (lt-leb _ _ still-long) (omega arith);
-          lost = rw (lt-leb _ _ still-long, lt-leb _ _ l, beyond-none H, skip-long n) (omega arith);
-          held = sym (within-none H);
-        }
+        moves (all ∷ []) [] 0 (lengthWith s (e - i)) 0 (rw (lt-leb _ _ still-long))
+        (rw (lt-leb _ _ still-long, lt-leb _ _ l, beyond-none H, skip-long n) (omega arith)) (sym (within-none H))
 
     skips-on : Moves H (s .counts) w e i [] all (marked s i e .counts)
     skips-on =
-        record {
-          taken = refl;
-          dropped = refl;
-          framed = refl;
-          lost = rw (lt-leb _ _ still-long, lt-leb _ _ l, skip-long n) (omega arith);
-          held = rw (lt-leb _ _ still-long);
-        }
+        moves [] all 0 (lengthWith s (e - i)) 0 refl (rw (lt-leb _ _ still-long, lt-leb _ _ l, skip-long n) (omega arith)) (rw (lt-leb _ _ still-long))
 
   ended : Stands s h w → Does s h c w i (ends s h c i e) (answerTo H all) e (all ∷ []) []
   unfolding ends

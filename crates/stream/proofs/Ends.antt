@@ -9,7 +9,7 @@ use native.Mathlib.Nat.{not-suc-le-zero, add-zero}
 use lib.Dec.{ltb}
 use lib.ListN.{length, take, drop, length-append, length-drop, length-replicate, replicate, take-append-drop}
 use lib.Seq.{take-at, take-append-le, drop-append-le, length-take-le}
-use borrow.Author.Tests.{le-leb, le-ltb}
+use borrow.Author.Tests.{le-leb}
 use Rattle.error.specs.Refusal.{Told, yes, no}
 use Rattle.error.specs.declared.WireError.{WireError}
 use Rattle.error.specs.declared.WireError.the-variants.{BadState, CounterFull}
@@ -24,7 +24,7 @@ use Rattle.splitter.specs.Feed.{Given, Answer, given, more, toldEvent, isBad, i
 use Rattle.splitter.specs.Feed.{counted, holding, marked, ends, goesOn, runs, feedRule}
 use Rattle.stream.specs.Stream.{Call, Calls, Feeds, joined}
 use Rattle.stream.specs.Stream as stream
-use Rattle.splitter.proofs.Laws.{Good, good-is, feed-bad, feed-full, feed-goes-on, taken-after}
+use Rattle.splitter.proofs.Laws.{Good, good-is, feed-bad, feed-full, feed-goes-on, CanCount, can-take, counts-on}
 use Rattle.stream.proofs.Calls.{Stands, fits, long, stands-good, Agrees, one-call}
 use Rattle.splitter.proofs.One.{eventOf, fedOf}
 
@@ -85,7 +85,7 @@ fed-moves f a h′ s h c e y p =
 
 -- no 64-bit count is too full for it
 pub empty-fits : (s : FrameSplitter) → s .counts .taken < 2 ^ 64 → isFull s 0 ≡ false
-empty-fits s l = le-ltb (2 ^ 64 - 1) (s .counts .taken + 0) (omega arith)
+empty-fits s l = can-take s 0 0 (omega arith) (omega arith)
 
 laid-none : (h : List ℕ) (n : ℕ) → laid h n [] ≡ h
 laid-none h n = rw (append-nil, add-zero n, take-append-drop)
@@ -176,21 +176,20 @@ past r = record { trace = r .trace; state = r .state; held = r .held; feeds = st
 
 -- what follows a chunk, wherever the calls over it lead to: n bytes more can be counted
 abbrev Onward : ℕ → List (List ℕ) → Type 0
-Onward n cs = (s : FrameSplitter) (h : List ℕ) → isBad s (length h) ≡ false → s .counts .taken + n < 2 ^ 64 → Through s h cs
+Onward n cs = (s : FrameSplitter) (h : List ℕ) → isBad s (length h) ≡ false → CanCount s n → Through s h cs
 
 unfoldable pub one-chunk : (n : ℕ) (s : FrameSplitter) (h c : List ℕ) (cs : List (List ℕ)) → isBad s (length h) ≡ false
-    → s .counts .taken + (length c + length (joined cs)) < 2 ^ 64 → length c ≤ n → Onward (length (joined cs)) cs → Through s h (c ∷ cs)
+    → CanCount s (length c + length (joined cs)) → length c ≤ n → Onward (length (joined cs)) cs → Through s h (c ∷ cs)
 one-chunk zero s h [] cs good below l go = past (go s h good (omega arith))
 one-chunk zero s h (x ∷ c) cs good below l go = absurd (not-suc-le-zero l)
 one-chunk (suc n) s h [] cs good below l go = past (go s h good (omega arith))
 one-chunk (suc n) s h (x ∷ c) cs good below l go =
     let g : Given = feedRule s h (x ∷ c) in
-    let free : isFull s (length (x ∷ c)) ≡ false = le-ltb (2 ^ 64 - 1) (s .counts .taken + length (x ∷ c)) (omega arith) in
+    let free = can-take s (length (x ∷ c)) (length (x ∷ c) + length (joined cs)) (omega arith) below in
     let t : 0 < g .taken = feed-moves s h (x ∷ c) good free (omega arith) in
-    let m : g .taken ≤ length (x ∷ c) = feed-within s h (x ∷ c) in
-    let d : length (drop (g .taken) (x ∷ c)) ≡ length (x ∷ c) - g .taken = length-drop (g .taken) (x ∷ c) in
-    let after : g .state .counts .taken ≡ s .counts .taken + g .taken = taken-after s h (x ∷ c) good free in
-    let r = one-chunk n (g .state) (g .hold) (drop (g .taken) (x ∷ c)) cs (stands-good (good-call s h good (x ∷ c) free .stands)) (omega arith) (omega arith) go in
+    let d : length (drop (g .taken) (x ∷ c)) ≤ n = rw (length-drop (g .taken) (x ∷ c)) (omega arith) in
+    let b = counts-on s h (x ∷ c) good (feed-within s h (x ∷ c)) (length (joined cs)) below in
+    let r = one-chunk n (g .state) (g .hold) (drop (g .taken) (x ∷ c)) cs (stands-good (good-call s h good (x ∷ c) free .stands)) b d go in
     record { trace = _; state = r .state; held = r .held; feeds = stream.Feeds.feed (fedOf g) (g .hold) (allowed s h (x ∷ c)) (r .feeds) }
 
 -- however a line shorter than 2^64 is cut into chunks, offering each untaken rest again comes to an end

@@ -11,13 +11,14 @@ use lib.ListN.{length, length-append}
 use Rattle.general.proofs.Cases.{by-test}
 use Rattle.splitter.specs.declared.FrameSplitter.{FrameSplitter}
 use Rattle.splitter.specs.Feed.{new}
+use Rattle.splitter.proofs.Laws.{CanCount}
 use Rattle.stream.specs.Stream.{Call, Calls}
 use Rattle.search.specs.First.{indexOf}
 use Rattle.stream.specs.Rust.{turns, rustFrames, rustLeft}
 use Rattle.stream.specs.Noise.{outside, within, beyond, sumOver, countsOver}
 use Rattle.stream.proofs.Line.{after, opened, frameAt, framesIn, begun}
 use Rattle.stream.proofs.Tally.{Tallied, beyond-none}
-use Rattle.stream.proofs.Stream.{Below, taken-below, follows-fresh}
+use Rattle.stream.proofs.Stream.{taken-below, follows-fresh}
 use Rattle.stream.proofs.Calls.{stands-fresh}
 use Rattle.stream.proofs.Rust.{line-frames, line-leaves}
 
@@ -50,7 +51,7 @@ counts-are {h} {b} {s = s} c =
 -- The bytes of a line that calls took, all of it, are fewer than 2^64.
 pub line-below : {h b : List ℕ} {t : List Call} {s : FrameSplitter} {k : List ℕ} → Calls new h b t s k → length b < 2 ^ 64
 line-below {h} {b} c =
-    let l : Below new b = taken-below [] (stands-fresh h) (omega arith) c in
+    let l : CanCount new (length b) = taken-below [] (stands-fresh h) (omega arith) c in
     omega arith
 
 -- ---- the sum

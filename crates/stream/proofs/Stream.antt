@@ -3,16 +3,16 @@
 use mathlib.Core.Path.{_≡_, refl, sym, ap, _∙_, subst}
 use mathlib.Core.Bool.{false, cond, not}
 use mathlib.Core.List.{List, [], _∷_, _++_, append-assoc, append-nil}
-use Prim.Native.Nat.{ℕ, zero, suc, _+_, _-_, _^_, _≤_, _<_}
+use Prim.Native.Nat.{ℕ, zero, suc, _+_, _≤_}
 use native.Mathlib.Omega.{arith}
 use lib.Dec.{leb}
 use lib.ListN.{length, take, drop, length-take, length-drop, take-append-drop}
 use lib.Seq.{take-take, length-take-le}
-use borrow.Author.Tests.{le-leb, lt-leb, le-ltb, ltb-false}
+use borrow.Author.Tests.{le-leb, lt-leb}
 use Rattle.general.proofs.Cases.{by-test}
 use Rattle.splitter.specs.declared.FrameSplitter.{FrameSplitter}
 use Rattle.splitter.specs.Feed.{Given, new, isFull, refusedAs, toldEvent, givenBy, more, overlong, frame}
-use Rattle.splitter.proofs.Laws.{feed-full}
+use Rattle.splitter.proofs.Laws.{CanCount, can-take, can-count, feed-full}
 use Rattle.error.specs.Refusal.{yes, no}
 use Rattle.stream.specs.Stream.{Said, saidOf, Call, Calls, done, next, takenBy, unlessMore, answers}
 use Rattle.stream.specs.Heard.{atLast, heard, Alike}
@@ -36,20 +36,16 @@ only-more (no n vs) e = cc
 
 -- ---- a line that all calls took is shorter than 2^64
 
--- what a state may still count
-abbrev pub Below : FrameSplitter → List ℕ → Type 0
-Below s b = s .counts .taken + length b < 2 ^ 64
-
--- a chunk of such bytes is not refused
-pub free : (s : FrameSplitter) (b : List ℕ) (n : ℕ) → Below s b → isFull s (length (take n b)) ≡ false
-free s b n l = le-ltb (2 ^ 64 - 1) (s .counts .taken + length (take n b)) (omega (arith, length-take n b))
+-- a chunk of bytes that can be counted is not refused
+pub free : (s : FrameSplitter) (b : List ℕ) (n : ℕ) → CanCount s (length b) → isFull s (length (take n b)) ≡ false
+free s b n l = can-take s (length (take n b)) (length b) (omega (arith, length-take n b)) l
 
 -- the bytes behind a call that took n of them, where its next state has counted those
-rest-below : (s s′ : FrameSplitter) (b : List ℕ) (n : ℕ) → n ≤ length b → s′ .counts .taken ≡ s .counts .taken + n → Below s b → Below s′ (drop n b)
+rest-below : (s s′ : FrameSplitter) (b : List ℕ) (n : ℕ) → n ≤ length b → s′ .counts .taken ≡ s .counts .taken + n → CanCount s (length b) → CanCount s′ (length (drop n b))
 rest-below s s′ b n l e k = omega (arith, length-drop n b)
 
 -- A call that would pass 2^64 takes nothing, so no calls use up a line that is longer.
-pub taken-below : {s s′ : FrameSplitter} {h h′ b : List ℕ} {t : List Call} (w : List ℕ) → Stands s h w → Below s [] → Calls s h b t s′ h′ → Below s b
+pub taken-below : {s s′ : FrameSplitter} {h h′ b : List ℕ} {t : List Call} (w : List ℕ) → Stands s h w → CanCount s 0 → Calls s h b t s′ h′ → CanCount s (length b)
 taken-below w k l done = l
 taken-below {s} {h = h} {b = b} w k l (next n r h₁ e rest) =
     let c : List ℕ = take n b in
@@ -59,15 +55,15 @@ taken-below {s} {h = h} {b = b} w k l (next n r h₁ e rest) =
     let state : r .splitter ≡ s = ap (λ (g : Given). g .state) z in
     let hold : h₁ ≡ h = ap (λ (g : Given). g .hold) z in
     let none : r .taken ≡ 0 = ap (λ (g : Given). g .taken) z in
-    let u : Below (r .splitter) (drop (r .taken) b) = taken-below w (rw (state, hold) k) (rw state l) rest in
+    let u : CanCount (r .splitter) (length (drop (r .taken) b)) = taken-below w (rw (state, hold) k) (rw state l) rest in
     rw (none, state) at u)
     (λ f.
     let a : Agrees s h c w (givenBy r h₁) = rw e (one-call w c k f) in
-    let most : s .counts .taken + length c ≤ 2 ^ 64 - 1 = ltb-false _ _ f in
+    let most : CanCount s (length c) = can-count s (length c) f in
     let size : length (take (r .taken) c) ≡ r .taken = length-take-le (r .taken) c (a .within) in
     let taken : r .splitter .counts .taken ≡ s .counts .taken + r .taken = omega (arith, a .counts .taken) in
     let within : r .taken ≤ length c = a .within in
-    let u : Below (r .splitter) (drop (r .taken) b) = taken-below _ (a .stands) (omega arith) rest in
+    let u : CanCount (r .splitter) (length (drop (r .taken) b)) = taken-below _ (a .stands) (omega arith) rest in
     omega (arith, length-drop (r .taken) b, length-take n b))
 
 -- ---- the calls follow the line
@@ -88,7 +84,7 @@ held-is (long l n m g) = rw (lt-leb _ _ l) (g .held ∙ n)
 no-moves : {s : FrameSplitter} {h w : List ℕ} → Stands s h w → Tallied (length h) (s .counts) w [] (s .counts)
 no-moves k = record { taken = omega arith; dropped = omega arith; framed = omega arith; lost = omega arith; held = held-is k }
 
-pub follows : {s s′ : FrameSplitter} {h h′ b : List ℕ} {t : List Call} (w : List ℕ) → Stands s h w → Below s b → Calls s h b t s′ h′ → Follows s h w b t s′ h′
+pub follows : {s s′ : FrameSplitter} {h h′ b : List ℕ} {t : List Call} (w : List ℕ) → Stands s h w → CanCount s (length b) → Calls s h b t s′ h′ → Follows s h w b t s′ h′
 follows w k l done = record { hears = refl; takes = refl; plain = tt; stands = k; size = refl; counts = no-moves k }
 follows {s} {h = h} {b = b} w k l (next {t = t} n r h₁ e rest) =
     let c : List ℕ = take n b in
@@ -102,7 +98,7 @@ follows {s} {h = h} {b = b} w k l (next {t = t} n r h₁ e rest) =
     let size : length m ≡ r .taken = length-take-le (r .taken) b long in
     let all : m ++ d ≡ b = take-append-drop (r .taken) b in
     let counts : Tallied (length h) (s .counts) w m (r .splitter .counts) = rw same at (a .counts) in
-    let l′ : Below (r .splitter) d = rest-below s (r .splitter) b (r .taken) long (rw size at (counts .taken)) l in
+    let l′ : CanCount (r .splitter) (length d) = rest-below s (r .splitter) b (r .taken) long (rw size at (counts .taken)) l in
     let f = follows (opened w m) (rw same at (a .stands)) l′ rest in
     record {
       hears = rw (size, a .heard, same, f .hears, a .size) (sym (hear-append (length h) w m d) ∙ ap (hear (length h) w) all);
