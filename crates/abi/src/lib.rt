@@ -1,5 +1,7 @@
 // An answer as C takes it: 0, or a refusal's number with its values in three lent words.
 // A refusal alters no other lent place. The crates abi_* export what include/movaleduft.h lists.
+#![tactic(auto)]
+
 ghost use Rattle.std.specs.Prelude.{◌≡◌, pos};
 ghost use Rattle.error.specs.Refusal.{number_of, values_of};
 ghost use Rattle.error.specs.Result.{told_unit};

@@ -1,5 +1,7 @@
 // The bay log's record, for C: the call is `bay_log::write_record`.
 // What it tells, and every lent place, is that function's rule.
+#![tactic(auto)]
+
 ghost use Rattle.std.specs.Prelude.{◌≡◌};
 ghost use Rattle.bay_log.specs.Log.{log_rule};
 ghost use Rattle.abi.specs.Answer.{Passed};

@@ -1,5 +1,7 @@
 // EE for C, the club head's points: how many a payload has, the point of an index, and the request for a page of them.
 // What a call tells, and every lent place, is the rule of the function of that name; specs/Numbers says what stands where.
+#![tactic(auto)]
+
 ghost use Rattle.std.specs.Prelude.{◌≡◌};
 ghost use Rattle.error.specs.Refusal.{on_yes};
 ghost use Rattle.integer_write.specs.Writing.{writing, written};

@@ -1,5 +1,7 @@
 // Refusals for C: how many values the refusal of a number has.
 // Who prints or compares a refusal asks this call, and keeps no table of its own.
+#![tactic(auto)]
+
 ghost use Rattle.abi_error.specs.ValueCount.{ValueCount};
 
 // By number; no refusal's number is 0.

@@ -1,5 +1,7 @@
 // Whether a shot failed, for C: each call decodes a payload and asks its record, 1 for yes.
 // An archive of their own: beside the decoder's own call a second one keeps the compiler from inlining it, and D4 is slower.
+#![tactic(auto)]
+
 ghost use Rattle.error.specs.Refusal.{and_then};
 ghost use Rattle.failure.specs.League.{rule_numbered};
 ghost use Rattle.flight.specs.Decoding.{decode_rule};

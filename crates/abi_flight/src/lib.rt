@@ -1,5 +1,7 @@
 // D4, E8 and ED for C: each call is the decoder of that message, its record's numbers in two lent arrays.
 // What it tells, and every lent place, is that decoder's rule; what stands where is specs/Records.
+#![tactic(auto)]
+
 ghost use Rattle.std.specs.Prelude.{◌≡◌, ◌+◌, ◌≤◌, length};
 ghost use Rattle.std.proofs.lemmas.List.Edits.{sets};
 ghost use Rattle.flight.specs.Decoding.{decode_rule};

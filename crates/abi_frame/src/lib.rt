@@ -1,5 +1,7 @@
 // Frames for C: an address is its byte, and a frame's header four words.
 // What a call tells, and every lent place, is the rule of the function of that name; a refusal alters none of them but `values`.
+#![tactic(auto)]
+
 ghost use Rattle.std.specs.Prelude.{◌≡◌, length};
 ghost use Rattle.error.specs.Refusal.{on_yes, filled};
 ghost use Rattle.frame.specs.Rule.{open_rule, copy_rule};

@@ -1,5 +1,7 @@
 // A field by number, for C: which message is its type byte.
 // What the call tells, and every lent place, is the rule of `numbers::field_at`.
+#![tactic(auto)]
+
 ghost use Rattle.abi.specs.Answer.{Passed};
 ghost use Rattle.abi_numbers.specs.Question.{field_of, asked_of};
 

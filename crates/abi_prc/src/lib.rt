@@ -1,5 +1,7 @@
 // EC for C, the ball's points: how many a payload has, and the point of an index, its numbers in two lent arrays.
 // What a call tells, and every lent place, is the rule of the function of that name; specs/Numbers says what stands where.
+#![tactic(auto)]
+
 ghost use Rattle.std.specs.Prelude.{◌≡◌};
 ghost use Rattle.error.specs.Refusal.{yes, on_yes};
 ghost use Rattle.points.specs.Point.{point_answer, point_source};

@@ -1,5 +1,7 @@
 // E5 for C: where the text lies in its payload, and whether a word stands in a text.
 // What a call tells, and every lent place, is the rule of the function of that name.
+#![tactic(auto)]
+
 ghost use Rattle.std.specs.Prelude.{◌≡◌};
 ghost use Rattle.shot_text.specs.Trim.{place_of};
 ghost use Rattle.shot_text.specs.Search.{Stands, bytes};

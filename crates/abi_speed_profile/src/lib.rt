@@ -1,5 +1,7 @@
 // D9 for C: the call is its decoder, the speeds at the front of a lent buffer and the record's other numbers in lent places.
 // What it tells, and every lent place, is that decoder's rule; specs/Numbers says what stands where.
+#![tactic(auto)]
+
 ghost use Rattle.std.specs.Prelude.{◌≡◌, length};
 ghost use Rattle.error.specs.Refusal.{on_yes};
 ghost use Rattle.speed_profile.specs.Profile.{speed_rule, speeds_after};

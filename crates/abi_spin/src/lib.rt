@@ -1,5 +1,7 @@
 // EF for C: the call is its decoder, the record's numbers in two lent arrays.
 // What it tells, and every lent place, is that decoder's rule; specs/Numbers says what stands where.
+#![tactic(auto)]
+
 ghost use Rattle.std.specs.Prelude.{◌≡◌};
 ghost use Rattle.std.proofs.lemmas.List.Edits.{sets};
 ghost use Rattle.error.specs.Refusal.{on_yes};

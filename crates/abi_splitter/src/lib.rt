@@ -1,5 +1,7 @@
 // The splitter for C: its state lies in seven lent words, all 0 at the start, and `feed` answers five words.
 // What the call tells, and every lent place, is the rule of `FrameSplitter::feed`; a mark that is neither 0 nor 1 is a bad state.
+#![tactic(auto)]
+
 ghost use Rattle.std.specs.Prelude.{◌≡◌};
 ghost use Rattle.abi.specs.Answer.{Passed};
 ghost use Rattle.abi_splitter.specs.Fed.{state_of, words_of, feed_from, left_by};

@@ -1,5 +1,7 @@
 // E9 for C: the record's numbers in two lent arrays, each stored as it is read.
 // What it tells, and every lent place, is the rule of `TrackingStatus::decode`; specs/Numbers says what stands where.
+#![tactic(auto)]
+
 ghost use Rattle.std.specs.Prelude.{◌≡◌, [], ◌∷◌, ◌+◌, ◌<◌};
 ghost use Rattle.std.proofs.lemmas.List.Edits.{sets};
 ghost use Rattle.error.specs.Refusal.{on_yes};

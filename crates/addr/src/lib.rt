@@ -1,5 +1,7 @@
 // Bus addresses of the device's internal network: the four bytes that DEST and SRC may be.
 // `from_byte` refuses every other byte (6); `from_byte` of `as_byte` is the address again (proofs/Back).
+#![tactic(auto)]
+
 ghost use Rattle.std.specs.Prelude.{◌≡◌};
 ghost use Rattle.addr.specs.Address.{byte_of, told_bus_addr, address_rule};
 

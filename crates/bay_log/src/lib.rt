@@ -1,5 +1,7 @@
 // The bay log: one record of 32 bytes for a shot, from its event number and its D4 payload.
 // The record fills the front of the lent buffer and the rest keeps its bytes; a refusal writes nothing. docs/BAY_LOG.md has the layout.
+#![tactic(auto)]
+
 ghost use Rattle.std.specs.Prelude.{◌≡◌};
 ghost use Rattle.error.specs.Result.{told_unit};
 ghost use Rattle.integer.specs.Fields.{int_at};

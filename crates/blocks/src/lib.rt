@@ -1,5 +1,7 @@
 // Sixteen bytes at once: a block of a string, and a block stored in a buffer, each by a loop that needs no test of the place.
 // `block` and `put_block` are what their contracts say of the whole string and the whole buffer.
+#![tactic(auto)]
+
 ghost use Rattle.std.specs.Prelude.{◌≡◌, cond, ◌++◌, ◌+◌, leb, length, take, replicate};
 ghost use Rattle.std.proofs.lemmas.List.Edits.{sets};
 

@@ -1,5 +1,7 @@
 // Test: what two cables hear of a capture on standard input: the same, one byte at a time and in pieces of many sizes (request 14).
 // A hold buffer of 256 bytes, then one of 8; each is lent to both cables, so that the second finds in it what the first left there.
+#![tactic(auto)]
+
 mod cable;
 mod heard;
 

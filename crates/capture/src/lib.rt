@@ -1,5 +1,7 @@
 // A capture on standard input: read to its end, and document 01's line for each event and the line at the end printed.
 // The work on a piece is `session`'s; the calls are those of a run of session: specs/Program, whose theorems say what is printed.
+#![tactic(auto)]
+
 ghost use Rattle.std.specs.Prelude.{◌≡◌, length};
 ghost use Rattle.session.specs.Piece.{stage};
 ghost use Rattle.session.specs.Program.{Reached};

@@ -1,5 +1,7 @@
 // Test: replays the fixed list of the Rust's answers on standard input, a case a line (docs/CASES.md), through the exported library.
 // The gate holds what it prints to `stdout` beside src/. A line that is no case, or asks for more than there is room for, is told by its number, and ends the run.
+#![tactic(auto)]
+
 mod case;
 mod fields;
 mod frames;

@@ -1,5 +1,7 @@
 // Checking a wire of frame.rs: F0, stuffed(DEST SRC TYPE PAYLOAD CS_HI CS_LO), F1. Nothing is copied.
 // `check` answers what specs/Rule says: the first test that fails, or the header and where the payload lies (proofs/Located).
+#![tactic(auto)]
+
 ghost use Rattle.std.specs.Prelude.{◌≡◌, ◌+◌, ◌-◌, ◌*◌, ◌<◌, ◌≤◌, length, drop, get_or};
 ghost use Rattle.error.specs.Refusal.{on_yes, and_then};
 ghost use Rattle.unstuffing.specs.Unstuff.{unstuff};

@@ -1,5 +1,7 @@
 // The names of codec.rs, each from the crate that proves it.
 // Integer fields are in `integer`, `integer_read` and `integer_write`, FLOAT40 in `float40` and `float40_write`; nothing is added here.
+#![tactic(auto)]
+
 pub use float40::{float40_at, float40_of, read_float40};
 pub use float40_write::{write_float40, write_float40_bits};
 pub use integer::{

@@ -1,5 +1,7 @@
 // Encoding of frame.rs: the wire of a frame, written at the front of a lent buffer.
 // `encode` answers and writes what specs/Encode says; the checksum runs over the stuffed bytes, where they were written.
+#![tactic(auto)]
+
 mod measuring;
 mod placing;
 mod putting;

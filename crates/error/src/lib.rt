@@ -1,5 +1,7 @@
 // Errors of the wire protocol: document 01's eleven refusals and the later ones, each with its number and its values.
 // Every number and value is the table's; number and values together decide the refusal (proofs/Decides).
+#![tactic(auto)]
+
 ghost use Rattle.std.specs.Prelude.{◌≡◌, ◌++◌, ◌-◌, length, get_or, replicate};
 ghost use Rattle.error.specs.declared.WireError.TheVariants.{PayloadTooShort};
 ghost use Rattle.error.specs.Refusal.{number_of, values_of};

@@ -1,5 +1,7 @@
 // A failed shot, by the league's rule 1 or rule 2: of its speed, its flight time and its carry.
 // Which figures these are is the message's own; a shot failed by rule 1 is failed by rule 2 (proofs/Rules).
+#![tactic(auto)]
+
 ghost use Rattle.std.specs.Prelude.{◌≡◌};
 ghost use Rattle.failure.specs.League.{at_most_zero, below_zero, failed_by, rule_numbered, told_league_rule};
 

@@ -1,5 +1,7 @@
 // Shot result messages D4, E8 and ED: each decoded into one record of whole numbers and floats.
 // A field asked for by number is the record's field of that name (proofs/ByNumber).
+#![tactic(auto)]
+
 mod club_result;
 mod figures;
 mod flight_result;

@@ -1,5 +1,7 @@
 // FLOAT40, the wire's 40-bit float, read: exponent e (INT16), then mantissa m (INT24), worth m * 2^(e - 23).
 // Too short is refused with 7.
+#![tactic(auto)]
+
 mod bits;
 
 ghost use Rattle.std.specs.Prelude.{◌≡◌};

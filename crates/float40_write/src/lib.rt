@@ -1,5 +1,7 @@
 // FLOAT40 written: a float's 64 bits taken apart into exponent and mantissa, five bytes at a place.
 // No room is refused with 8; what was written reads back as proofs/Back says.
+#![tactic(auto)]
+
 ghost use Rattle.std.specs.Prelude.{◌≡◌, length};
 ghost use Rattle.error.specs.Result.{told_unit};
 ghost use Rattle.integer_write.specs.Writing.{writing, written};

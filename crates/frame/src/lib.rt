@@ -1,5 +1,7 @@
 // Frames of frame.rs: F0, stuffed(DEST SRC TYPE PAYLOAD CS_HI CS_LO), F1. `RawFrame::encode` writes a wire; `RawFrame::open`
 // reads its header and `RawFrame::copy_payload` its payload, as specs/Rule says: what encoding wrote comes back (proofs/Round).
+#![tactic(auto)]
+
 mod copying;
 
 ghost use Rattle.std.specs.Prelude.{◌≡◌, length};

@@ -1,5 +1,7 @@
 // Test: document 01's 'Run' cases of the splitter as the program's lines, then a capture on standard input as `frames` prints it.
 // Its example, a frame as long as the hold buffer and one longer, hold buffers of 1 and 0 bytes, each at once and then cut in two.
+#![tactic(auto)]
+
 use error::ResultUsize;
 use session::Session;
 

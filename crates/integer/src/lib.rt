@@ -1,5 +1,7 @@
 // The integer field at a place, big-endian and two's complement, for callers that tested the length.
 // A byte past the end counts as 0; the test of a place is in `place`.
+#![tactic(auto)]
+
 mod place;
 
 ghost use Rattle.std.specs.Prelude.{◌≡◌, ◌+◌, ◌*◌, ◌^◌, ◌<◌, ◌≤◌, length, get_or};

@@ -1,5 +1,7 @@
 // Integer fields read at a place: the field, or refusal 7 with its kind where it does not fit.
 // A scaled read divides once.
+#![tactic(auto)]
+
 ghost use Rattle.std.specs.Prelude.{◌≡◌};
 ghost use Rattle.error.specs.Result.{told_unit, told_i16, told_u16, told_i32, told_u32, told_f64};
 ghost use Rattle.integer.specs.Fields.{be_at, int_at, reading, scaled_by};

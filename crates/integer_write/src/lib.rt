@@ -1,5 +1,7 @@
 // Integer fields written at a place: the value's low bytes, big-endian and two's complement.
 // No room is refused with 8; a refusal writes nothing, and every other byte is kept.
+#![tactic(auto)]
+
 ghost use Rattle.std.specs.Prelude.{◌≡◌, ◌+◌, ◌≤◌, length};
 ghost use Rattle.std.proofs.lemmas.List.Edits.{sets};
 ghost use Rattle.error.specs.Result.{told_unit};

@@ -1,5 +1,7 @@
 // Scaled fields at a place, for decoders that tested the length: a byte past the end counts as 0.
 // A scaled read divides once.
+#![tactic(auto)]
+
 ghost use Rattle.std.specs.Prelude.{◌≡◌};
 ghost use Rattle.integer.specs.Fields.{int_at, scaled_by};
 

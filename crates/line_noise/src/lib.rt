@@ -1,5 +1,7 @@
 // How much of the line is noise: a piece of the stream in, the splitter's five counts on; what the splitter answers is not looked at.
 // However the stream is cut into pieces, the counts are those of its bytes (proofs/Printed).
+#![tactic(auto)]
+
 ghost use Rattle.std.specs.Prelude.{◌≡◌, false, length};
 ghost use Rattle.splitter.specs.Feed.{is_bad, is_full};
 ghost use Rattle.line_noise.specs.Piece.{between, wholly, take_rule, outcome_of};

@@ -1,5 +1,7 @@
 // Prints how much of a capture on standard input is noise: the splitter's five counts at its end, each on its line (request 6).
 // The work on a piece is `line_noise`'s; the calls are those of a run of line_noise: specs/Program, whose theorems say what is printed.
+#![tactic(auto)]
+
 ghost use Rattle.line_noise.specs.Piece.{between};
 ghost use Rattle.line_noise.specs.Program.{Reached};
 

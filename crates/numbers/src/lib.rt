@@ -1,5 +1,7 @@
 // D4, E8 and ED by number: their shapes, the list of their divisors, and a field asked for by its number.
 // The list keeps document 01's rule (proofs/Divisors); the decoders and `field_at` divide by it.
+#![tactic(auto)]
+
 ghost use Rattle.std.specs.Prelude.{◌≡◌, ◌<◌};
 ghost use Rattle.integer.specs.Fields.{scaled_by};
 ghost use Rattle.numbers.specs.Numbers.{shape_of, count_of, whole_of, rule_of, entry_of, float, scale_rule};

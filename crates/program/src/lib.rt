@@ -1,5 +1,7 @@
 // What the programs share: their words, standard input in pieces, standard output, and telling what went wrong.
 // A program has no exit status: it writes to standard error only what went wrong, and what is told there is the program's status.
+#![tactic(auto)]
+
 ghost use Rattle.std.specs.Prelude.{◌≡◌, true, [], leb, length};
 ghost use Rattle.libc.specs.Io.{Moved};
 

@@ -1,5 +1,7 @@
 // The text line of each event, as bytes at the front of a lent buffer: document 01's lines, whole.
 // A line that does not fit is refused with 8, and nothing is written.
+#![tactic(auto)]
+
 mod counts;
 mod number;
 mod place;

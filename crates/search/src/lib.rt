@@ -1,5 +1,7 @@
 // The first byte b of a slice, from an index on: its index, or where the slice has none its length.
 // `find` looks at byte after byte; `find_far` at sixteen at once, for a byte that is likely far off.
+#![tactic(auto)]
+
 ghost use Rattle.std.specs.Prelude.{◌≡◌, false, ◌+◌, ◌≤◌, length};
 ghost use Rattle.search.specs.First.{first_from};
 

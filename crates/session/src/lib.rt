@@ -1,5 +1,7 @@
 // The program's work without its input and output: a piece of the stream in, the lines of its events out.
 // However the stream is cut into pieces, the lines are those of the Rust's frames (proofs/Printed).
+#![tactic(auto)]
+
 ghost use Rattle.std.specs.Prelude.{◌≡◌, ◌*◌, ◌≤◌, false, length};
 ghost use Rattle.error.specs.Result.{told_usize};
 ghost use Rattle.error.specs.Refusal.{yes};

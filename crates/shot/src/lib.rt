@@ -1,5 +1,7 @@
 // Shot result messages, under the names of shot.rs, and the field by number.
 // Each is proved in the crate that it comes from; nothing is added here.
+#![tactic(auto)]
+
 pub use club_prc::{ClubPrc, ClubPrcPoint, ResultClubPrcPoint};
 pub use failure::{LeagueRule, ResultLeagueRule};
 pub use flight::{

@@ -1,5 +1,7 @@
 // E5, the shot processing state text: the payload without the control bytes at its two ends, as a part of it.
 // The three searches say yes exactly where their word stands in the text.
+#![tactic(auto)]
+
 ghost use Rattle.std.specs.Prelude.{◌≡◌, ◌+◌, ◌-◌, ◌≤◌, length, take, drop};
 ghost use Rattle.shot_text.specs.Trim.{cut_front, cut_back, text_of, text_at, place_of};
 ghost use Rattle.shot_text.specs.Search.{Says, StandsAt, Stands, bytes};

@@ -1,5 +1,7 @@
 // EF: the spin measurement, one record beside its answer.
 // Every field is the table's in specs/; beside a refusal every number of the record is zero.
+#![tactic(auto)]
+
 ghost use Rattle.std.specs.Prelude.{◌≡◌, ◌+◌, ◌*◌, ◌≤◌, length, take};
 ghost use Rattle.error.specs.Result.{told_unit};
 ghost use Rattle.layout.specs.Layout.{answered, source_of, fields_of, zeros, row};

@@ -1,5 +1,7 @@
 // The splitter: cuts a byte stream that comes in chunks into frames F0 .. F1, one event a call, and counts what the line loses.
 // However the stream is cut, the frames are the Rust's; those longer than the hold buffer are answered Overlong (crate stream).
+#![tactic(auto)]
+
 mod counting;
 
 ghost use Rattle.std.specs.Prelude.{◌≡◌, false, not, ◌+◌, ◌-◌, ◌≤◌, length};

@@ -1,5 +1,7 @@
 // Unstuffing of frame.rs: FD and a code are one byte again; the first wrong escape is refused, one that is cut off by a number of its own.
 // `unstuffed` counts the bytes that a string unstuffs to. Unstuffing what was stuffed gives it back (proofs/Unstuffing).
+#![tactic(auto)]
+
 ghost use Rattle.std.specs.Prelude.{◌≡◌, ◌+◌, ◌-◌, ◌%◌, ◌<◌, length, drop, if◌then◌else◌, nat_eq, slice_index};
 ghost use Rattle.error.specs.Refusal.{on_yes};
 ghost use Rattle.error.specs.Result.{told_usize};

@@ -1,5 +1,7 @@
 // The bytes of a frame that the splitter answered: a part of the chunk or of the hold buffer, where it lies.
 // A place that does not fit its buffer shows the chunk's empty start, so every place is answered.
+#![tactic(auto)]
+
 ghost use Rattle.std.specs.Prelude.{◌≡◌};
 ghost use Rattle.view.specs.View.{view_rule, view_at};
 

@@ -1,0 +1,5 @@
+-- Laws that every crate uses.
+pub mod Cases
+pub mod Table
+pub mod Stores
+pub mod One
