@@ -7,7 +7,7 @@ ghost use Rattle.addr.specs.Address.{byte_of, told_bus_addr, address_rule};
 
 use error::WireError;
 
-#[derive(Drop)]
+#[derive(Clone, Copy)]
 pub enum BusAddr {
     // Client application (phone, PC, a tool of ours)
     App,
@@ -26,6 +26,7 @@ pub enum ResultBusAddr {
 }
 
 impl BusAddr {
+    #[tactic(auto, unfolding(crate::specs::Address::address_rule))]
     pub fn from_byte(b: u8) -> ResultBusAddr
         ensures { told_bus_addr result ≡ address_rule b }
     {
