@@ -6,7 +6,7 @@ ghost use Rattle.std.specs.Prelude.{◌≡◌, ◌++◌, ◌-◌, length, get_or
 ghost use Rattle.error.specs.declared.WireError.TheVariants.{PayloadTooShort};
 ghost use Rattle.error.specs.Refusal.{number_of, values_of};
 
-#[derive(Drop)]
+#[derive(Clone, Copy)]
 pub enum WireError {
     FrameTooShort { len: usize },
     MissingStart { got: u8 },
