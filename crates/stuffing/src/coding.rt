@@ -13,6 +13,7 @@ pub fn select(x: u8, key: u8, same: u8, other: u8) -> u8
 }
 
 // The code that stands after FD for a byte; 0 for a byte that stands for itself.
+#[tactic(auto, unfolding(crate::specs::Stuff::escape_of))]
 pub fn escape_code(b: u8) -> u8
     ensures { result ≡ escape_of b }
 {
@@ -25,6 +26,7 @@ pub fn escape_code(b: u8) -> u8
 }
 
 // The byte that a code stands for; 0 for any other number.
+#[tactic(auto, unfolding(crate::specs::Stuff::unescape_of))]
 pub fn unescape(c: u8) -> u8
     ensures { result ≡ unescape_of c }
 {
