@@ -13,12 +13,12 @@ loop-k-preserved c =
       omega arith,
       λ h.
           elim c.if-a-i.branch [
-            then-a-i w ↦
-              let z : true ≡ false = sym w.hit-is ∙ h in
-              cc
+            | then-a-i w ↦
+                let z : true ≡ false = sym w.hit-is ∙ h in
+                cc
             | else-a-i w ↦
-              c.loop-k.invariant.1 (sym w.hit-is ∙ h)
-              ∙ first-miss a.b (a.i + c.loop-k.k) a.a.now (omega arith) w.if-a-i.false
-              ∙ ap (λ (x : ℕ). first_from a.b x a.a.now) n
+                c.loop-k.invariant.1 (sym w.hit-is ∙ h)
+                ∙ first-miss a.b (a.i + c.loop-k.k) a.a.now (omega arith) w.if-a-i.false
+                ∙ ap (λ (x : ℕ). first_from a.b x a.a.now) n
           ],
     )
