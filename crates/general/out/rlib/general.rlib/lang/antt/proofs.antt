@@ -1,5 +1,0 @@
--- Laws that every crate uses.
-pub mod Cases
-pub mod Table
-pub mod Stores
-pub mod One

@@ -1,2 +1,0 @@
--- What the contracts of several crates cite and none of them owns.
-pub mod Number
