@@ -1,67 +1,116 @@
 // What the programs share: their words, standard input in pieces, standard output, and telling what went wrong.
-// A program has no exit status: it writes to standard error only what went wrong, and what is told there is the program's status.
+// A program has no exit status of its own: it writes to standard error only what went wrong, and what is told there is the program's status.
 #![tactic(auto)]
 
 ghost use Rattle.std.specs.Prelude.{◌≡◌, true, [], leb, length};
-ghost use Rattle.libc.specs.Io.{Moved};
+ghost use Rattle.program.specs.Counts.{Moved, IsPrefixLen, clamp_len};
+
+mod number;
+
+pub use number::{decimal, hex};
+use std::env::FillError;
+use std::io::{Error, Read};
+use std::rt::Env;
+
+// How many words a program was started with, its own name among them.
+pub fn word_count(rt: &HostRuntime) -> usize {
+    let mut none = [0u8; 0];
+    for i in 0..usize::MAX {
+        if let Err(FillError::NotPresent) = rt.arg(i, &mut none) {
+            return i;
+        }
+    }
+    usize::MAX
+}
 
 // Whether a program that takes no words was started with none, its own name apart. Where there are some, its usage is told.
-pub fn alone(args: usize, usage: &[u8]) -> bool
+pub fn alone(rt: &HostRuntime, args: usize, usage: &[u8]) -> bool
     ensures { result ≡ leb args 1 }
 {
     let alone = args <= 1;
     if !alone {
-        tell(usage);
+        tell(rt, usage);
     }
     alone
 }
 
 // One read of standard input, into a lent piece: how many bytes came, 0 at the end. A failure is told.
-pub fn read(name: &[u8], piece: &mut [u8]) -> isize
+pub fn read(rt: &HostRuntime, name: &[u8], piece: &mut [u8]) -> isize
     ensures { Moved (length piece.old) result }
 {
-    let got = libc::read(libc::STDIN_FILENO, piece);
-    if got < 0 {
-        fail(name, b": standard input cannot be read");
+    match rt.stdin().read(piece) {
+        Ok(n) => n as isize,
+        Err(reason) => {
+            fail(rt, name, b": standard input cannot be read: ", reason);
+            -1
+        }
     }
-    got
+}
+
+// What a read of a piece answered as a number of its bytes: 0 where it is negative, and never more than the piece has.
+pub fn count(got: isize, piece: &[u8]) -> usize
+    ensures in_bounds { IsPrefixLen result piece.now }
+    ensures value { result ≡ clamp_len got (length piece.now) }
+{
+    if got <= 0 {
+        return 0;
+    }
+    let n = got as usize;
+    if n < piece.len() { n } else { piece.len() }
 }
 
 // All of a text to standard output, or the failure is told; an empty text cannot fail.
-pub fn write(name: &[u8], text: &[u8]) -> bool
+pub fn write(rt: &HostRuntime, name: &[u8], text: &[u8]) -> bool
     ensures { text.now ≡ [] → result ≡ true }
 {
     if text.len() == 0 {
         return true;
     }
-    let written = io::write_all(libc::STDOUT_FILENO, text);
-    if !written {
-        fail(name, b": standard output cannot be written");
+    match rt.stdout().write_all(text) {
+        Ok(()) => true,
+        Err(reason) => {
+            fail(rt, name, b": standard output cannot be written: ", reason);
+            false
+        }
     }
-    written
 }
 
 // What went wrong on a line of a list, by the line's number.
-pub fn wrong(name: &[u8], number: u64, what: &[u8])
+pub fn wrong(rt: &HostRuntime, name: &[u8], number: u64, what: &[u8])
     ensures { result ≡ tt }
 {
-    tell(name);
-    tell(b": line ");
-    io::print_decimal(libc::STDERR_FILENO, number);
-    tell(b": ");
-    tell(what);
-    tell(b"\n");
+    tell(rt, name);
+    tell(rt, b": line ");
+    let _ = rt.eprint(number);
+    tell(rt, b": ");
+    tell(rt, what);
+    tell(rt, b"\n");
 }
 
 // The program's name, what failed, and the system's reason.
-fn fail(name: &[u8], what: &[u8]) {
-    tell(name);
-    os::fail(what);
+fn fail(rt: &HostRuntime, name: &[u8], what: &[u8], reason: Error) {
+    tell(rt, name);
+    tell(rt, what);
+    let _ = rt.eprintln(reason);
 }
 
 // A text to standard error.
-pub fn tell(text: &[u8])
+pub fn tell(rt: &HostRuntime, text: &[u8])
     ensures { result ≡ tt }
 {
-    io::write_all(libc::STDERR_FILENO, text);
+    let _ = rt.stderr().write_all(text);
+}
+
+// 4,096 zeros. The contract gives the length, which lending them needs.
+pub fn buffer() -> [u8; 4096]
+    ensures { 4096 ≡ length result }
+{
+    [0; 4096]
+}
+
+// 65,536 zeros, for a loop that moves much. The contract gives the length, which lending them needs.
+pub fn large_buffer() -> [u8; 65536]
+    ensures { 65536 ≡ length result }
+{
+    [0; 65536]
 }
