@@ -17,7 +17,7 @@ use search::{find, find_far};
 
 // The state between two calls: how many bytes of an open frame the hold buffer has, or that
 // the open frame is longer than that buffer and is skipped up to its end; and the counts since the first call.
-#[derive(Drop)]
+#[derive(Clone, Copy)]
 pub struct FrameSplitter {
     pub count: usize,
     pub skipping: bool,
@@ -26,7 +26,7 @@ pub struct FrameSplitter {
 
 // Bytes since the first call: all that were taken; dropped outside frames; handed over in frames; lost in frames longer
 // than the hold buffer, one that is being skipped too; and held.
-#[derive(Drop)]
+#[derive(Clone, Copy)]
 pub struct Counts {
     pub taken: u64,
     pub dropped: u64,
@@ -36,7 +36,7 @@ pub struct Counts {
 }
 
 // Where a frame lies: len bytes from start on, in the hold buffer or in the chunk.
-#[derive(Drop)]
+#[derive(Clone, Copy)]
 pub struct Place {
     pub in_hold: bool,
     pub start: usize,
