@@ -1,5 +1,5 @@
 // An answer as C takes it: 0, or a refusal's number with its values in three lent words.
-// A refusal alters no other lent place. The crates abi_* export what include/movaleduft.h lists.
+// A refusal alters no other lent place. The crates abi_* have the calls that include/movaleduft.h lists, and movaleduft exports them.
 #![tactic(auto)]
 
 ghost use Rattle.std.specs.Prelude.{◌≡◌, pos};

@@ -7,8 +7,7 @@ ghost use Rattle.abi_error.specs.ValueCount.{ValueCount};
 // By number; no refusal's number is 0.
 const COUNTS: [usize; 14] = [0, 1, 1, 0, 2, 2, 1, 3, 2, 0, 1, 1, 1, 0];
 
-#[unsafe(no_mangle)]
-pub extern "C" fn mvd_value_count(refusal: u64) -> usize
+pub fn mvd_value_count(refusal: u64) -> usize
     ensures { ValueCount refusal result }
 {
     if refusal < 14 {

@@ -10,8 +10,7 @@ ghost use Rattle.abi_shot_text.specs.Flags.{Flags};
 use abi::flag;
 use shot_text::ShotText;
 
-#[unsafe(no_mangle)]
-pub extern "C" fn mvd_shot_text(payload: &[u8], start: &mut usize, len: &mut usize)
+pub fn mvd_shot_text(payload: &[u8], start: &mut usize, len: &mut usize)
     ensures start_after { start.new ≡ (place_of payload.now).start }
     ensures len_after { len.new ≡ (place_of payload.now).len }
 {
@@ -20,22 +19,19 @@ pub extern "C" fn mvd_shot_text(payload: &[u8], start: &mut usize, len: &mut usi
     *len = place.len;
 }
 
-#[unsafe(no_mangle)]
-pub extern "C" fn mvd_is_processed(text: &[u8]) -> u8
+pub fn mvd_is_processed(text: &[u8]) -> u8
     ensures { Flags (Stands (bytes "PROCESSED") text.now) result }
 {
     flag(ShotText::is_processed(text))
 }
 
-#[unsafe(no_mangle)]
-pub extern "C" fn mvd_is_idle(text: &[u8]) -> u8
+pub fn mvd_is_idle(text: &[u8]) -> u8
     ensures { Flags (Stands (bytes "IDLE") text.now) result }
 {
     flag(ShotText::is_idle(text))
 }
 
-#[unsafe(no_mangle)]
-pub extern "C" fn mvd_is_trigger(text: &[u8]) -> u8
+pub fn mvd_is_trigger(text: &[u8]) -> u8
     ensures { Flags (Stands (bytes "BALL TRIGGER") text.now) result }
 {
     flag(ShotText::is_trigger(text))
