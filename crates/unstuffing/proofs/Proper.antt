@@ -30,6 +30,7 @@ is_yes (no k vs) = ⊥
 
 rest-yes : (i v : ℕ) (t : Told (List (ℕ × ℕ))) → is_yes (after i (yes v) t) → is_yes t
 rest-yes i v (yes us) y = tt
+rest-yes i v (no k vs) y = elim y [ ]
 
 pub proper-of : (i : ℕ) (s : List ℕ) → is_yes (unstuff i s) → Proper s
 unfolding step_by escape_by
