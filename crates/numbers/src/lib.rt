@@ -13,7 +13,7 @@ mod table;
 pub use crate::table::{D4, DIVISORS, E8, ED};
 use integer::int24_at;
 
-#[derive(Drop)]
+#[derive(Clone, Copy)]
 pub enum Message {
     // Type D4
     FlightResult,
