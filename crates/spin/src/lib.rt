@@ -10,7 +10,7 @@ ghost use Rattle.spin.specs.Tables.{element_of, spin_of};
 use error::{ResultUnit, WireError};
 
 // What one antenna group saw in one range bin, 7 bytes of EF.
-#[derive(Drop)]
+#[derive(Clone, Copy)]
 pub struct AntennaElement {
     // its estimate of the spin in RPM
     pub spin_rpm: i16,
