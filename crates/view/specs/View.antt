@@ -14,7 +14,7 @@ view_rule c h p = part_or_none (cond p.in_hold h c) p.start p.len
 
 -- the address of index i of a lent buffer
 abbrev pub part_at : Bor (List ℕ) → ℕ → ℕ × ℕ
-part_at r i = (r.ptr.0, i + r.ptr.1)
+part_at r i = (r.ref_ptr.0, i + r.ref_ptr.1)
 
 -- where they lie
 abbrev pub view_at : Bor (List ℕ) → Bor (List ℕ) → Place → ℕ × ℕ

@@ -1,6 +1,6 @@
 -- `lay` meets its contract. One byte, or a block, is stored at once; else one more byte is pasted at each turn.
 -- At the loop's end all of src is.
-use Rattle.std.proofs.Common.{◌≡◌, arith, length-set, add-one}
+use Rattle.std.proofs.Common.{arith, length-set, add-one}
 use Rattle.std.proofs.Math.Seq.{paste-suc}
 use Rattle.splitter.proofs.Laws.{block-laid}
 use Rattle.splitter.proofs.lay.Goals as goal
