@@ -8,7 +8,7 @@ ghost use Rattle.failure.specs.League.{at_most_zero, below_zero, failed_by, rule
 use error::WireError;
 
 // The rules by which a league counts failed shots. Seasons are compared, so each stays.
-#[derive(Drop)]
+#[derive(Clone, Copy)]
 pub enum LeagueRule {
     // No speed, as the Rust has it
     Rule1,
