@@ -277,5 +277,5 @@ counted-yes s n e =
 -- what is told of an interior's units, told of the interior
 pub head-through : (t : Told (List (ℕ × ℕ))) (rule : List (ℕ × ℕ) → Told Fields)
     → on_yes (head_at (units_of t)) (and_then t rule) ≡ and_then t (λ us. on_yes (head_at us) (rule us))
-head-through (yes us) rule = refl
+head-through (yes ws) rule = refl
 head-through (no k vs) rule = refl
