@@ -10,8 +10,7 @@ use abi::{flag, tell};
 use error::WireError;
 use splitter::{Counts, Event, FrameSplitter};
 
-#[unsafe(no_mangle)]
-pub extern "C" fn mvd_feed(
+pub fn mvd_feed(
     splitter: &mut [u64; 7],
     hold: &mut [u8],
     chunk: &[u8],
