@@ -9,8 +9,7 @@ use abi::tell;
 use error::WireError;
 use numbers::{Field, Message};
 
-#[unsafe(no_mangle)]
-pub extern "C" fn mvd_field(
+pub fn mvd_field(
     message: u8,
     payload: &[u8],
     number: usize,
