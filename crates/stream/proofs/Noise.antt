@@ -4,7 +4,7 @@
 use mathlib.Core.Path.{◌≡◌, refl, ap, ◌∙◌}
 use mathlib.Core.Bool.{false}
 use mathlib.Core.List.{List, [], ◌∷◌, ◌++◌, append-nil}
-use Prim.Native.Nat.{ℕ, suc, ◌+◌, ◌^◌, ◌<◌}
+use Prim.Native.Nat.{ℕ, ◌+◌, ◌^◌, ◌<◌}
 use native.Mathlib.Omega.{arith}
 use lib.Dec.{eqb, leb}
 use lib.ListN.{length, length-append}
@@ -16,7 +16,7 @@ use Rattle.stream.specs.Stream.{Call, Calls}
 use Rattle.search.specs.First.{index_of}
 use Rattle.stream.specs.Rust.{turns, rust_frames, rust_left}
 use Rattle.stream.specs.Noise.{outside, within, beyond, sum_over, counts_over}
-use Rattle.stream.proofs.Line.{after, opened, frame_at, frames_in, begun}
+use Rattle.stream.proofs.Line.{opened, frames_in, begun}
 use Rattle.stream.proofs.Tally.{Tallied, beyond-none}
 use Rattle.stream.proofs.Stream.{taken-below, follows-fresh}
 use Rattle.stream.proofs.Calls.{stands-fresh}
