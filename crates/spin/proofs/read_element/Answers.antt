@@ -1,6 +1,5 @@
 -- `read_element` meets its contract: each call answers a field of the table, in the part that is the element.
 -- What stands at a place of the part stands that far behind its start in the payload.
-use borrow.Author.Rules.{rules}
 use Prim.Native.Nat.{◌+◌, ◌-◌}
 use mathlib.Core.Path.{◌≡◌, ◌∙◌, ap}
 use native.Mathlib.Omega.{arith}

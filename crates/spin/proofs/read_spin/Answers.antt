@@ -1,8 +1,5 @@
 -- `read_spin` meets its contract: each call answers a field of the table.
 -- A signed number that is read is the number its bits hold.
-use mathlib.Core.Path.{sym}
-use native.Mathlib.Omega.{arith}
-use lib.Seq.{length-take-le}
 use lib.Ieee.{of_int, of_bits}
 use mir.Syntax.{w16, w32}
 use Rattle.layout.proofs.Held.{held}

@@ -1,7 +1,5 @@
 -- `read_tracking` meets its contract: each call answers a field of the table.
 -- A signed number that is read is the number its bits hold.
-use mathlib.Core.Path.{sym}
-use lib.Seq.{length-take-le}
 use mathlib.Core.List.{[], ◌∷◌}
 use mir.Syntax.{w32}
 use Rattle.layout.proofs.Held.{held}
