@@ -8,7 +8,7 @@ use addr::BusAddr;
 use stuffing::{checksum, tally};
 
 // How much room is enough, and the checksum, if it was counted on the way.
-#[derive(Drop)]
+#[derive(Clone, Copy)]
 pub(crate) struct Plan {
     pub(crate) need: usize,
     pub(crate) counted: bool,
