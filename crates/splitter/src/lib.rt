@@ -43,7 +43,7 @@ pub struct Place {
     pub len: usize,
 }
 
-#[derive(Drop)]
+#[derive(Clone, Copy)]
 pub enum Event {
     More,
     Frame(Place),
@@ -52,7 +52,7 @@ pub enum Event {
 }
 
 // What a call answers, how many bytes of the chunk it took, and the splitter for the next call.
-#[derive(Drop)]
+#[derive(Clone, Copy)]
 pub struct Fed {
     pub event: Event,
     pub taken: usize,
