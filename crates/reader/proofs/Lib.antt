@@ -1,10 +1,3 @@
--- Laws of the reader: walks by hand (`Walk`), the reader's struct (`Held`), a move (`Moving`, `Move`), its callers (`Loan`, `Calls`),
--- places (`Next`), replies (`One`).
-pub mod Walk
-pub mod Held
-pub mod Moving
-pub mod Move
-pub mod Loan
-pub mod Calls
+-- Laws of the reader: the places that a run of moves passes (`Next`), and that each contract allows one reply (`One`).
 pub mod Next
 pub mod One
