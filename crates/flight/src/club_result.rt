@@ -12,7 +12,7 @@ use integer::{byte_at, int24_at};
 use numbers::{DIVISORS, ED, Message, scale};
 
 // The club head at impact; the device sends it twice a shot. Turning left is positive.
-#[derive(Drop)]
+#[derive(Clone, Copy)]
 pub struct ClubResult {
     // How many points the club was tracked at; EE has them
     pub num_club_prc_points: u8,

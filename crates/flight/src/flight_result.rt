@@ -14,7 +14,7 @@ use integer::int24_at;
 use numbers::{D4, DIVISORS, Message, scale};
 
 // The ball's whole flight, one message a shot. Sideways and turning left is positive; a position is forward, up, left.
-#[derive(Drop)]
+#[derive(Clone, Copy)]
 pub struct FlightResult {
     // Counts the shots
     pub total: i32,

@@ -14,7 +14,7 @@ use integer::int24_at;
 use numbers::{DIVISORS, E8, Message, scale};
 
 // What is known of the flight early, one message a shot, ahead of D4. Sideways and turning left is positive.
-#[derive(Drop)]
+#[derive(Clone, Copy)]
 pub struct FlightResultV1 {
     // Counts the shots
     pub total: i32,

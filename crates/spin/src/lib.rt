@@ -21,7 +21,7 @@ pub struct AntennaElement {
 }
 
 // EF, sent once for a shot: the ball's spin as each method has it, and what the chosen number was checked against.
-#[derive(Drop)]
+#[derive(Clone, Copy)]
 pub struct SpinResult {
     // the first byte; the device sends 137
     pub version: u8,
