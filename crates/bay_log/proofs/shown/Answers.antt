@@ -1,17 +1,12 @@
--- `shown` meets its contract: half tenths less half of them are the nearest tenth (proofs/Halves).
+-- Half tenths less half of them are the nearest tenth (proofs/Halves).
 -- No step leaves the range, whatever is divided by.
-use Prim.Native.Nat.{ℕ}
-use mathlib.Core.Path.{◌≡◌, ◌∙◌, ap}
-use lib.Dec.{lit<}
-use lib.IntN.{ℤ, pos, ◌-ℤ◌}
+use Rattle.std.proofs.Common.{ℕ, ℤ, pos, ◌-ℤ◌, ◌≡◌, ◌∙◌, ap, to_z, of_z, w32}
 use lib.Signed.{quot_z}
 use mir.Facts.{to_z-of_z}
-use mir.Syntax.{w32}
-use mir.Val.{SFits, to_z, of_z}
+use mir.Val.{SFits}
 use mir.ValLaws.{sfits_le}
 use Rattle.bay_log.proofs.Halves.{less_part, halved, part-within, less-within}
-use Rattle.bay_log.proofs.shown.Statement.{statement}
-use Rattle.bay_log.proofs.shown.Tie as tie
+use Rattle.bay_log.proofs.shown.Goals as goal
 
 -- ---- a number as the machine has it: a part of it, and the number less that part
 
@@ -28,22 +23,10 @@ less-is f d = rw (to_z-of_z (part-fits f d), to_z-of_z f)
 less-fits : {z : ℤ} → SFits w32 z → (d : ℕ) → SFits w32 (stored z -ℤ stored (quot_z (stored z) (pos d)))
 less-fits {z} f d = rw (less-is f d) (sfits_le (less-within z d) f)
 
--- ---- the needs
+-- ---- the goal
 
-div_halves : tie.Need-nonzero-div-halves
-div_halves c = (lit< tt, part-fits c.ranges.thousandths _)
-
-div-result : tie.Need-nonzero-div-result
-div-result c = (lit< tt, part-fits (part-fits c.ranges.thousandths _) _)
-
-sub-result : tie.Need-overflow-sub-result
-sub-result c = less-fits (part-fits c.ranges.thousandths _) _
-
-returns : tie.Need-returns
+pub returns : goal.returns
 returns c =
     let f = c.ranges.thousandths in
     let h = part-fits f 50 in
     to_z-of_z (less-fits h 2) ∙ less-is h 2 ∙ ap (λ (z : ℤ). less_part (quot_z z (pos 50)) 2) (to_z-of_z f) ∙ halved c.args.thousandths
-
-pub shown-spec : {M : Type 1} → statement M
-shown-spec = tie.close (tie.spec div_halves div-result sub-result returns)
