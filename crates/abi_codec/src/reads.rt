@@ -7,13 +7,7 @@ ghost use Rattle.abi.specs.Answer.{Passed};
 use abi::tell;
 use error::{ResultF64, ResultI16, ResultI32, ResultU16, ResultU32};
 
-#[unsafe(no_mangle)]
-pub extern "C" fn mvd_read_int16(
-    data: &[u8],
-    offset: usize,
-    value: &mut i16,
-    values: &mut [u64; 3],
-) -> u64
+pub fn mvd_read_int16(data: &[u8], offset: usize, value: &mut i16, values: &mut [u64; 3]) -> u64
     ensures { Passed (reading 1 2 (int_at 2) «data».now offset)
         value.old values.old result value.new values.new }
 {
@@ -26,13 +20,7 @@ pub extern "C" fn mvd_read_int16(
     }
 }
 
-#[unsafe(no_mangle)]
-pub extern "C" fn mvd_read_uint16(
-    data: &[u8],
-    offset: usize,
-    value: &mut u16,
-    values: &mut [u64; 3],
-) -> u64
+pub fn mvd_read_uint16(data: &[u8], offset: usize, value: &mut u16, values: &mut [u64; 3]) -> u64
     ensures { Passed (reading 2 2 (be_at 2) «data».now offset)
         value.old values.old result value.new values.new }
 {
@@ -45,13 +33,7 @@ pub extern "C" fn mvd_read_uint16(
     }
 }
 
-#[unsafe(no_mangle)]
-pub extern "C" fn mvd_read_int24(
-    data: &[u8],
-    offset: usize,
-    value: &mut i32,
-    values: &mut [u64; 3],
-) -> u64
+pub fn mvd_read_int24(data: &[u8], offset: usize, value: &mut i32, values: &mut [u64; 3]) -> u64
     ensures { Passed (reading 3 3 (int_at 3) «data».now offset)
         value.old values.old result value.new values.new }
 {
@@ -64,13 +46,7 @@ pub extern "C" fn mvd_read_int24(
     }
 }
 
-#[unsafe(no_mangle)]
-pub extern "C" fn mvd_read_uint24(
-    data: &[u8],
-    offset: usize,
-    value: &mut u32,
-    values: &mut [u64; 3],
-) -> u64
+pub fn mvd_read_uint24(data: &[u8], offset: usize, value: &mut u32, values: &mut [u64; 3]) -> u64
     ensures { Passed (reading 4 3 (be_at 3) «data».now offset)
         value.old values.old result value.new values.new }
 {
@@ -83,13 +59,7 @@ pub extern "C" fn mvd_read_uint24(
     }
 }
 
-#[unsafe(no_mangle)]
-pub extern "C" fn mvd_read_int32(
-    data: &[u8],
-    offset: usize,
-    value: &mut i32,
-    values: &mut [u64; 3],
-) -> u64
+pub fn mvd_read_int32(data: &[u8], offset: usize, value: &mut i32, values: &mut [u64; 3]) -> u64
     ensures { Passed (reading 5 4 (int_at 4) «data».now offset)
         value.old values.old result value.new values.new }
 {
@@ -102,13 +72,7 @@ pub extern "C" fn mvd_read_int32(
     }
 }
 
-#[unsafe(no_mangle)]
-pub extern "C" fn mvd_read_uint32(
-    data: &[u8],
-    offset: usize,
-    value: &mut u32,
-    values: &mut [u64; 3],
-) -> u64
+pub fn mvd_read_uint32(data: &[u8], offset: usize, value: &mut u32, values: &mut [u64; 3]) -> u64
     ensures { Passed (reading 6 4 (be_at 4) «data».now offset)
         value.old values.old result value.new values.new }
 {
@@ -121,8 +85,7 @@ pub extern "C" fn mvd_read_uint32(
     }
 }
 
-#[unsafe(no_mangle)]
-pub extern "C" fn mvd_read_int24_scaled(
+pub fn mvd_read_int24_scaled(
     data: &[u8],
     offset: usize,
     scale: f64,
@@ -141,8 +104,7 @@ pub extern "C" fn mvd_read_int24_scaled(
     }
 }
 
-#[unsafe(no_mangle)]
-pub extern "C" fn mvd_read_int16_scaled(
+pub fn mvd_read_int16_scaled(
     data: &[u8],
     offset: usize,
     scale: f64,
@@ -161,13 +123,7 @@ pub extern "C" fn mvd_read_int16_scaled(
     }
 }
 
-#[unsafe(no_mangle)]
-pub extern "C" fn mvd_read_float40(
-    data: &[u8],
-    offset: usize,
-    value: &mut f64,
-    values: &mut [u64; 3],
-) -> u64
+pub fn mvd_read_float40(data: &[u8], offset: usize, value: &mut f64, values: &mut [u64; 3]) -> u64
     ensures { Passed (reading 7 5 float40_at «data».now offset)
         value.old values.old result value.new values.new }
 {

@@ -7,86 +7,49 @@ ghost use Rattle.abi.specs.Answer.{Passed};
 
 use abi::unit;
 
-#[unsafe(no_mangle)]
-pub extern "C" fn mvd_write_int16(
-    buf: &mut [u8],
-    offset: usize,
-    val: i16,
-    values: &mut [u64; 3],
-) -> u64
+pub fn mvd_write_int16(buf: &mut [u8], offset: usize, val: i16, values: &mut [u64; 3]) -> u64
     ensures passed { Passed (writing (int_bytes 2 val) buf.old offset) tt values.old result tt values.new }
     ensures buf_after { buf.new ≡ written (int_bytes 2 val) buf.old offset }
 {
     unit(integer_write::write_int16(buf, offset, val), values)
 }
 
-#[unsafe(no_mangle)]
-pub extern "C" fn mvd_write_uint16(
-    buf: &mut [u8],
-    offset: usize,
-    val: u16,
-    values: &mut [u64; 3],
-) -> u64
+pub fn mvd_write_uint16(buf: &mut [u8], offset: usize, val: u16, values: &mut [u64; 3]) -> u64
     ensures passed { Passed (writing (bytes_of 2 val) buf.old offset) tt values.old result tt values.new }
     ensures buf_after { buf.new ≡ written (bytes_of 2 val) buf.old offset }
 {
     unit(integer_write::write_uint16(buf, offset, val), values)
 }
 
-#[unsafe(no_mangle)]
-pub extern "C" fn mvd_write_int24(
-    buf: &mut [u8],
-    offset: usize,
-    val: i32,
-    values: &mut [u64; 3],
-) -> u64
+pub fn mvd_write_int24(buf: &mut [u8], offset: usize, val: i32, values: &mut [u64; 3]) -> u64
     ensures passed { Passed (writing (int_bytes 3 val) buf.old offset) tt values.old result tt values.new }
     ensures buf_after { buf.new ≡ written (int_bytes 3 val) buf.old offset }
 {
     unit(integer_write::write_int24(buf, offset, val), values)
 }
 
-#[unsafe(no_mangle)]
-pub extern "C" fn mvd_write_uint24(
-    buf: &mut [u8],
-    offset: usize,
-    val: u32,
-    values: &mut [u64; 3],
-) -> u64
+pub fn mvd_write_uint24(buf: &mut [u8], offset: usize, val: u32, values: &mut [u64; 3]) -> u64
     ensures passed { Passed (writing (bytes_of 3 val) buf.old offset) tt values.old result tt values.new }
     ensures buf_after { buf.new ≡ written (bytes_of 3 val) buf.old offset }
 {
     unit(integer_write::write_uint24(buf, offset, val), values)
 }
 
-#[unsafe(no_mangle)]
-pub extern "C" fn mvd_write_int32(
-    buf: &mut [u8],
-    offset: usize,
-    val: i32,
-    values: &mut [u64; 3],
-) -> u64
+pub fn mvd_write_int32(buf: &mut [u8], offset: usize, val: i32, values: &mut [u64; 3]) -> u64
     ensures passed { Passed (writing (int_bytes 4 val) buf.old offset) tt values.old result tt values.new }
     ensures buf_after { buf.new ≡ written (int_bytes 4 val) buf.old offset }
 {
     unit(integer_write::write_int32(buf, offset, val), values)
 }
 
-#[unsafe(no_mangle)]
-pub extern "C" fn mvd_write_uint32(
-    buf: &mut [u8],
-    offset: usize,
-    val: u32,
-    values: &mut [u64; 3],
-) -> u64
+pub fn mvd_write_uint32(buf: &mut [u8], offset: usize, val: u32, values: &mut [u64; 3]) -> u64
     ensures passed { Passed (writing (bytes_of 4 val) buf.old offset) tt values.old result tt values.new }
     ensures buf_after { buf.new ≡ written (bytes_of 4 val) buf.old offset }
 {
     unit(integer_write::write_uint32(buf, offset, val), values)
 }
 
-#[unsafe(no_mangle)]
-pub extern "C" fn mvd_write_float40_bits(
+pub fn mvd_write_float40_bits(
     buf: &mut [u8],
     offset: usize,
     bits: u64,

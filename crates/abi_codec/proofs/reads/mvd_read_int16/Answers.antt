@@ -1,0 +1,13 @@
+-- `mvd_read_int16` meets its contract: it tells what `integer_read::read_int16` tells.
+-- The value is stored, or the refusal told; neither alters the other place.
+use Rattle.std.proofs.Common.{rules}
+use mir.Syntax.{w16}
+use mir.ValLaws.{to_z-of_z}
+use Rattle.abi.proofs.Passing.{passed, refuses}
+use Rattle.abi_codec.proofs.reads.mvd_read_int16.Goals as goal
+
+pub returns-in-Ok : goal.returns-in-Ok
+returns-in-Ok c = rw (to_z-of_z w16 c.in-Ok.n (search rules)) (passed c.in-Ok.ensures _ _)
+
+pub returns-in-Err : goal.returns-in-Err
+returns-in-Err c = refuses c.in-Err.e c.in-Err.ensures _ _ c.tell.ensures
