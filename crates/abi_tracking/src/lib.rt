@@ -15,8 +15,7 @@ use error::WireError;
 use integer::{byte_at, int24_at, uint16_at, uint24_at};
 
 // Not by way of `TrackingStatus::decode`: all of its numbers would be read before the first is stored, more than there are registers.
-#[unsafe(no_mangle)]
-pub extern "C" fn mvd_tracking_status(
+pub fn mvd_tracking_status(
     payload: &[u8],
     counts: &mut [u64; 16],
     whole: &mut [i32; 4],
