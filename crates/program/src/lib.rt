@@ -2,7 +2,7 @@
 // A program has no exit status of its own: it writes to standard error only what went wrong, and what is told there is the program's status.
 #![tactic(auto)]
 
-ghost use Rattle.std.specs.Prelude.{◌≡◌, true, [], leb, length};
+ghost use Rattle.std.specs.Prelude.{◌≡◌, true, [], leb, length, replicate};
 ghost use Rattle.program.specs.Counts.{Moved, IsPrefixLen, clamp_len};
 
 mod number;
@@ -101,16 +101,18 @@ pub fn tell(rt: &HostRuntime, text: &[u8])
     let _ = rt.stderr().write_all(text);
 }
 
-// 4,096 zeros. The contract gives the length, which lending them needs.
+// 4,096 zeros. The contract gives the length too, which lending them needs.
 pub fn buffer() -> [u8; 4096]
-    ensures { 4096 ≡ length result }
+    ensures size { 4096 ≡ length result }
+    ensures zeros { result ≡ replicate 4096 0 }
 {
     [0; 4096]
 }
 
-// 65,536 zeros, for a loop that moves much. The contract gives the length, which lending them needs.
+// 65,536 zeros, for a loop that moves much. The contract gives the length too, which lending them needs.
 pub fn large_buffer() -> [u8; 65536]
-    ensures { 65536 ≡ length result }
+    ensures size { 65536 ≡ length result }
+    ensures zeros { result ≡ replicate 65536 0 }
 {
     [0; 65536]
 }
