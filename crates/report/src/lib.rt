@@ -70,7 +70,7 @@ pub fn end_line(count: usize, skipping: bool, out: &mut [u8]) -> ResultUsize
 }
 
 // One of the splitter's five counts.
-#[derive(Drop)]
+#[derive(Clone, Copy)]
 pub enum Count {
     Taken,
     Dropped,
