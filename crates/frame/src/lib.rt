@@ -16,7 +16,7 @@ use checking::{ResultHead, check};
 use error::{ResultUsize, WireError};
 
 // A frame's header, and the length of its payload.
-#[derive(Drop)]
+#[derive(Clone, Copy)]
 pub struct RawFrame {
     pub dest: BusAddr,
     pub src: BusAddr,
@@ -24,7 +24,7 @@ pub struct RawFrame {
     pub len: usize,
 }
 
-#[derive(Drop)]
+#[derive(Clone, Copy)]
 pub enum ResultRawFrame {
     Ok(RawFrame),
     Err(WireError),
