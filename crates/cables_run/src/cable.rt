@@ -6,18 +6,18 @@ use crate::heard;
 use splitter::FrameSplitter;
 
 // One byte at a time; or in pieces of many sizes, an empty one before each. Answers whether all that was heard could be printed.
-pub(crate) fn hear(hold: &mut [u8], capture: &[u8], by_pieces: bool) -> bool {
+pub(crate) fn hear(rt: &HostRuntime, hold: &mut [u8], capture: &[u8], by_pieces: bool) -> bool {
     let mut cable = Cable {
         splitter: FrameSplitter::new(),
-        is_written: heard::begin(by_pieces, hold.len()),
+        is_written: heard::begin(rt, by_pieces, hold.len()),
     };
     let mut at = 0;
     while at < capture.len() {
         let to = cut(at, capture.len(), by_pieces);
-        cable = bring(cable, hold, &capture[at..to], by_pieces);
+        cable = bring(rt, cable, hold, &capture[at..to], by_pieces);
         at = to;
     }
-    cable.is_written && heard::end(cable.splitter, hold)
+    cable.is_written && heard::end(rt, cable.splitter, hold)
 }
 
 #[derive(Drop)]
@@ -42,17 +42,17 @@ fn cut(at: usize, len: usize, by_pieces: bool) -> usize
 }
 
 // The piece; by pieces, an empty one before it.
-fn bring(cable: Cable, hold: &mut [u8], piece: &[u8], by_pieces: bool) -> Cable {
+fn bring(rt: &HostRuntime, cable: Cable, hold: &mut [u8], piece: &[u8], by_pieces: bool) -> Cable {
     if by_pieces {
-        let cable = offer(cable, hold, b"");
-        return offer(cable, hold, piece);
+        let cable = offer(rt, cable, hold, b"");
+        return offer(rt, cable, hold, piece);
     }
-    offer(cable, hold, piece)
+    offer(rt, cable, hold, piece)
 }
 
 // A piece until none of it is left; an empty one is offered once.
 // A proved loop has to end: the turns are counted down from a number that no piece uses up.
-fn offer(start: Cable, hold: &mut [u8], piece: &[u8]) -> Cable {
+fn offer(rt: &HostRuntime, start: Cable, hold: &mut [u8], piece: &[u8]) -> Cable {
     let mut cable = start;
     let mut at = 0;
     let mut turns = u64::MAX;
@@ -62,7 +62,7 @@ fn offer(start: Cable, hold: &mut [u8], piece: &[u8]) -> Cable {
         let fed = splitter.feed(hold, rest);
         cable = Cable {
             splitter: fed.splitter,
-            is_written: cable.is_written && heard::answer(fed.event, rest, hold),
+            is_written: cable.is_written && heard::answer(rt, fed.event, rest, hold),
         };
         at += fed.taken;
         if piece.len() <= at {
