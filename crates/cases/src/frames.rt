@@ -100,7 +100,7 @@ fn given(head: &[u8], words: [u64; 7], chunk: &[u8], out: &mut [u8]) -> usize {
 }
 
 // A splitter's state, where the stream and the answer line stand, and what the last call answered.
-#[derive(Drop)]
+#[derive(Clone, Copy)]
 struct Splitter {
     words: [u64; 7],
     at: usize,

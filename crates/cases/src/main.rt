@@ -10,12 +10,16 @@ mod say;
 
 use crate::case::{Fault, within};
 
-fn main() {
-    if program::alone(os::arg_count(), b"usage: ./run cases < LIST\n") {
-        let mut piece = io::large_buffer();
+fn main(rt: HostRuntime) {
+    if program::alone(
+        &rt,
+        program::word_count(&rt),
+        b"usage: ./run cases < LIST\n",
+    ) {
+        let mut piece = program::large_buffer();
         let mut line = case::line_buffer();
-        let mut out = io::large_buffer();
-        replay(&mut piece, &mut line, &mut out);
+        let mut out = program::large_buffer();
+        replay(&rt, &mut piece, &mut line, &mut out);
     }
 }
 
@@ -28,7 +32,7 @@ struct Reading {
 }
 
 // Each piece of the input in turn. A proved loop has to end: the turns are counted down from a number that no run uses up.
-fn replay(piece: &mut [u8], line: &mut [u8], out: &mut [u8]) {
+fn replay(rt: &HostRuntime, piece: &mut [u8], line: &mut [u8], out: &mut [u8]) {
     let mut at = Reading {
         number: 1,
         len: 0,
@@ -36,15 +40,15 @@ fn replay(piece: &mut [u8], line: &mut [u8], out: &mut [u8]) {
     };
     let mut turns = u64::MAX;
     while turns > 0 {
-        let got = program::read(b"cases", piece);
+        let got = program::read(rt, b"cases", piece);
         if got <= 0 {
             if got == 0 {
-                ended(at);
+                ended(rt, at);
             }
             break;
         }
-        let n = io::count(got, piece);
-        at = lines(at, &piece[..n], line, out);
+        let n = program::count(got, piece);
+        at = lines(rt, at, &piece[..n], line, out);
         if !at.is_sound {
             break;
         }
@@ -53,18 +57,24 @@ fn replay(piece: &mut [u8], line: &mut [u8], out: &mut [u8]) {
 }
 
 // At the end of the input nothing is left of a line.
-fn ended(at: Reading) {
+fn ended(rt: &HostRuntime, at: Reading) {
     if 0 < at.len {
-        program::wrong(b"cases", at.number, b"has no line feed at its end");
+        program::wrong(rt, b"cases", at.number, b"has no line feed at its end");
     }
 }
 
 // The lines that end in a piece, each behind what an earlier piece left of it.
-fn lines(start: Reading, piece: &[u8], line: &mut [u8], out: &mut [u8]) -> Reading {
+fn lines(
+    rt: &HostRuntime,
+    start: Reading,
+    piece: &[u8],
+    line: &mut [u8],
+    out: &mut [u8],
+) -> Reading {
     let mut at = start;
     let mut i = 0;
     while i < piece.len() {
-        at = next(at, piece[i], line, out);
+        at = next(rt, at, piece[i], line, out);
         if !at.is_sound {
             break;
         }
@@ -74,7 +84,7 @@ fn lines(start: Reading, piece: &[u8], line: &mut [u8], out: &mut [u8]) -> Readi
 }
 
 // One byte more: a line feed ends the line, any other byte is put behind it.
-fn next(at: Reading, byte: u8, line: &mut [u8], out: &mut [u8]) -> Reading {
+fn next(rt: &HostRuntime, at: Reading, byte: u8, line: &mut [u8], out: &mut [u8]) -> Reading {
     let number = at.number;
     let len = at.len;
     if byte == b'\n' {
@@ -82,7 +92,7 @@ fn next(at: Reading, byte: u8, line: &mut [u8], out: &mut [u8]) -> Reading {
         return Reading {
             number: std::num::wrapping_add_u64(number, 1),
             len: 0,
-            is_sound: answered(number, &line[..n], out),
+            is_sound: answered(rt, number, &line[..n], out),
         };
     }
     if len < line.len() {
@@ -93,7 +103,7 @@ fn next(at: Reading, byte: u8, line: &mut [u8], out: &mut [u8]) -> Reading {
             is_sound: true,
         };
     }
-    program::wrong(b"cases", number, b"has more than 4096 bytes");
+    program::wrong(rt, b"cases", number, b"has more than 4096 bytes");
     Reading {
         number,
         len,
@@ -102,10 +112,11 @@ fn next(at: Reading, byte: u8, line: &mut [u8], out: &mut [u8]) -> Reading {
 }
 
 // The line's answer is printed, or what is wrong with the line is told.
-fn answered(number: u64, hex: &[u8], out: &mut [u8]) -> bool {
+fn answered(rt: &HostRuntime, number: u64, hex: &[u8], out: &mut [u8]) -> bool {
     match case::first_fault(hex) {
         Fault::Length => {
             program::wrong(
+                rt,
                 b"cases",
                 number,
                 b"not a case: 34 hex digits, then two for each byte; of operation 25 at least 40 bytes",
@@ -113,15 +124,26 @@ fn answered(number: u64, hex: &[u8], out: &mut [u8]) -> bool {
             return false;
         }
         Fault::Digit => {
-            program::wrong(b"cases", number, b"not a case: a character is no hex digit");
+            program::wrong(
+                rt,
+                b"cases",
+                number,
+                b"not a case: a character is no hex digit",
+            );
             return false;
         }
         Fault::Operation => {
-            program::wrong(b"cases", number, b"not a case: there is no such operation");
+            program::wrong(
+                rt,
+                b"cases",
+                number,
+                b"not a case: there is no such operation",
+            );
             return false;
         }
         Fault::Room => {
             program::wrong(
+                rt,
                 b"cases",
                 number,
                 b"the buffer that it asks for has more than 1024 bytes, or 64 samples",
@@ -132,13 +154,13 @@ fn answered(number: u64, hex: &[u8], out: &mut [u8]) -> bool {
     }
     let n = answer(hex, out);
     let k = within(n, out);
-    program::write(b"cases", &out[..k])
+    program::write(rt, b"cases", &out[..k])
 }
 
 // The operation and the two numbers are the case's head; its bytes are lent to what writes, and read by all else.
 fn answer(hex: &[u8], out: &mut [u8]) -> usize {
     let mut head = [0u8; 17];
-    let mut room = io::buffer();
+    let mut room = program::buffer();
     case::unhex(hex, 0, &mut head);
     let n = case::unhex(hex, 34, &mut room);
     let k = within(n, &room);

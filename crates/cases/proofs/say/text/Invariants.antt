@@ -1,0 +1,10 @@
+-- `text` is safe and ends: the measure is what is left of the text.
+-- The buffer keeps its length.
+use Rattle.std.proofs.Common.{◌≡◌, ◌-◌, length}
+use Rattle.cases.proofs.say.text.Given as goal
+
+abbrev pub invariant-loop-i : goal.invariant-loop-i
+invariant-loop-i l = length l.out ≡ length l.initial.out
+
+abbrev pub decreases-loop-i : goal.decreases-loop-i
+decreases-loop-i l = length l.bytes - l.i
