@@ -11,18 +11,18 @@ use session::Session;
 
 // Where a read or a write fails, that is told and there is no line at the end: the lines are not the whole capture's.
 // No contract can speak of standard input and output, and nothing is lent or answered: it is proved safe, and that it ends.
-pub fn print_all()
+pub fn print_all(rt: &HostRuntime)
     ensures { result ≡ tt }
 {
     let mut hold = [0u8; 2048];
     let mut piece = [0u8; 8192];
     let mut lines = line_buffer();
-    let read = read_all(&mut hold, &mut piece, &mut lines);
+    let read = read_all(rt, &mut hold, &mut piece, &mut lines);
     if read.is_whole {
         let session = read.session;
         let splitter = session.splitter;
         let reply = report::end_line(splitter.count, splitter.skipping, &mut lines);
-        print(reply, &lines);
+        print(rt, reply, &lines);
     }
 }
 
@@ -44,7 +44,7 @@ fn line_buffer() -> [u8; 1048576]
 // one that calls of `piece` lead to, each with room for its lines.
 // A proved loop has to end, and nothing says that the input does: the turns are counted down from a
 // number that no run uses up.
-fn read_all(hold: &mut [u8], piece: &mut [u8], lines: &mut [u8]) -> Read
+fn read_all(rt: &HostRuntime, hold: &mut [u8], piece: &mut [u8], lines: &mut [u8]) -> Read
     requires { (length piece.old ≡ 8192) × (length lines.old ≡ 1048576) }
     ensures { Reached hold.old (stage result.session hold.new) }
 {
@@ -52,16 +52,16 @@ fn read_all(hold: &mut [u8], piece: &mut [u8], lines: &mut [u8]) -> Read
     let mut is_whole = false;
     let mut turns = u64::MAX;
     while turns > 0 {
-        let got = program::read(b"frames", piece);
+        let got = program::read(rt, b"frames", piece);
         if got <= 0 {
             is_whole = got == 0;
             break;
         }
-        let n = io::count(got, piece);
+        let n = program::count(got, piece);
         let ran = session.piece(hold, &piece[..n], lines);
         session = ran.session;
         let reply = ran.reply;
-        if !print(reply, lines) {
+        if !print(rt, reply, lines) {
             break;
         }
         turns -= 1;
@@ -69,6 +69,6 @@ fn read_all(hold: &mut [u8], piece: &mut [u8], lines: &mut [u8]) -> Read
     Read { session, is_whole }
 }
 
-fn print(reply: ResultUsize, lines: &[u8]) -> bool {
-    program::write(b"frames", session::text_of(reply, lines))
+fn print(rt: &HostRuntime, reply: ResultUsize, lines: &[u8]) -> bool {
+    program::write(rt, b"frames", session::text_of(reply, lines))
 }

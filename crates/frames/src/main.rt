@@ -2,8 +2,12 @@
 // The gate runs it on document 01's example (stdin and stdout beside src/).
 #![tactic(auto)]
 
-fn main() {
-    if program::alone(os::arg_count(), b"usage: ./run frames < CAPTURE\n") {
-        capture::print_all();
+fn main(rt: HostRuntime) {
+    if program::alone(
+        &rt,
+        program::word_count(&rt),
+        b"usage: ./run frames < CAPTURE\n",
+    ) {
+        capture::print_all(&rt);
     }
 }
