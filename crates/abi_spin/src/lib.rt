@@ -14,8 +14,7 @@ use abi::{byte, tell, wide};
 use error::ResultUnit;
 use spin::{AntennaElement, SpinResult};
 
-#[unsafe(no_mangle)]
-pub extern "C" fn mvd_spin_result(
+pub fn mvd_spin_result(
     payload: &[u8],
     whole: &mut [i32; 46],
     figures: &mut [f64; 16],
