@@ -16,7 +16,7 @@ use frame::RawFrame;
 use splitter::{Event, FrameSplitter};
 
 // Between two pieces: the splitter, and the number of the next event.
-#[derive(Drop)]
+#[derive(Clone, Copy)]
 pub struct Session {
     pub splitter: FrameSplitter,
     pub number: u64,
