@@ -47,9 +47,9 @@ module _ (e r : ℤ) (sign size : ℕ) (e-fits : FitsSigned w16 e) (r-fits : Fit
 
   -- a normal value
   module _ (digits : ℕ) (digits-is : digits ≡ size * 2 ^ to_lead size) (low : le_z (pos 0) (to_z w32 (of_z w32 r)) ≡ true)
-      (high : le_z (to_z w32 (of_z w32 r)) (pos 2045) ≡ true) where
+      (high : (f : ℕ) → to_z w32 (of_z w32 r) ≡ pos f → f < 2046) where
     field : (f : ℕ) × (f < 2046) × (to_z w32 (of_z w32 r) ≡ pos f)
-    field = let f = from_zero (to_z w32 (of_z w32 r)) low in (f.0, omega (arith, at_most f.1 high), f.1)
+    field = let f = from_zero (to_z w32 (of_z w32 r)) low in (f.0, high f.0 f.1, f.1)
 
     moved : nat_abs (to_z w32 (of_z w32 r)) * 2 ^ 52 % 2 ^ 64 ≡ field.0 * 2 ^ 52
     moved = ap (λ (z : ℤ). nat_abs z * 2 ^ 52 % 2 ^ 64) field.2 ∙ mod-eq_of_lt (omega (arith, field.1))
@@ -108,13 +108,13 @@ pub overflow_add-result-then-field-le2045 : goal.overflow_add-result-then-field-
 overflow_add-result-then-field-le2045 c =
     let a = c.args in
     normal-fits a.e c.raised-field.result a.sign a.size c.ranges.e (search rules) c.requires (omega arith) c.ranges.size.fits c.raised-field.ensures
-    c.normalised.result c.normalised.ensures c.if-field-ge0.true c.if-field-le2045.true
+    c.normalised.result c.normalised.ensures c.if-field-ge0.true (λ f e. omega (arith, at_most e c.if-field-le2045.true))
 
 pub returns-then-field-le2045 : goal.returns-then-field-le2045
 returns-then-field-le2045 c =
     let a = c.args in
     normal-is a.e c.raised-field.result a.sign a.size c.ranges.e (search rules) c.requires (omega arith) c.ranges.size.fits c.raised-field.ensures
-    c.normalised.result c.normalised.ensures c.if-field-ge0.true c.if-field-le2045.true
+    c.normalised.result c.normalised.ensures c.if-field-ge0.true (λ f is. omega (arith, at_most is c.if-field-le2045.true))
 
 pub returns-then-e-ltminus1051 : goal.returns-then-e-ltminus1051
 returns-then-e-ltminus1051 c =
