@@ -8,13 +8,7 @@ ghost use Rattle.abi.specs.Answer.{Passed};
 
 use abi::unit;
 
-#[unsafe(no_mangle)]
-pub extern "C" fn mvd_bay_log(
-    event: u32,
-    payload: &[u8],
-    buf: &mut [u8],
-    values: &mut [u64; 3],
-) -> u64
+pub fn mvd_bay_log(event: u32, payload: &[u8], buf: &mut [u8], values: &mut [u64; 3]) -> u64
     ensures passed { Passed (log_rule event payload.now buf.old).0 tt values.old result tt values.new }
     ensures buf_after { buf.new ≡ (log_rule event payload.now buf.old).1 }
 {
