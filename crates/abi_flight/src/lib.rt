@@ -16,8 +16,7 @@ use error::ResultUnit;
 use flight::{ClubResult, FlightResult, FlightResultV1};
 use numbers::Message;
 
-#[unsafe(no_mangle)]
-pub extern "C" fn mvd_flight_result(
+pub fn mvd_flight_result(
     payload: &[u8],
     whole: &mut [i32; 8],
     figures: &mut [f64; 44],
@@ -39,8 +38,7 @@ pub extern "C" fn mvd_flight_result(
     }
 }
 
-#[unsafe(no_mangle)]
-pub extern "C" fn mvd_flight_result_v1(
+pub fn mvd_flight_result_v1(
     payload: &[u8],
     whole: &mut [i32; 4],
     figures: &mut [f64; 27],
@@ -62,8 +60,7 @@ pub extern "C" fn mvd_flight_result_v1(
     }
 }
 
-#[unsafe(no_mangle)]
-pub extern "C" fn mvd_club_result(
+pub fn mvd_club_result(
     payload: &[u8],
     whole: &mut [i32; 3],
     figures: &mut [f64; 53],

@@ -1,0 +1,16 @@
+-- `flight_v1_whole` meets its contract: each number is the record's.
+-- Each fits 32 bits, since the record holds it.
+use Rattle.std.proofs.Common.{[], ◌∷◌, rules}
+use mir.Syntax.{w32}
+use mir.ValLaws.{to_z-of_z}
+use Rattle.abi_flight.proofs.flight_v1_whole.Goals as goal
+
+pub returns : goal.returns
+returns c =
+    let r = c.args.r in
+    λ i.
+    to_z-of_z w32 r.total (search rules) i
+    ∷ to_z-of_z w32 r.backspin_rpm (search rules) i
+    ∷ to_z-of_z w32 r.sidespin_rpm (search rules) i
+    ∷ to_z-of_z w32 r.poly_scale (search rules) i
+    ∷ []
