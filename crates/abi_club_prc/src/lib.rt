@@ -15,16 +15,14 @@ use abi::{byte, tell, unit, wide};
 use club_prc::{ClubPrc, ClubPrcPoint};
 use error::ResultUnit;
 
-#[unsafe(no_mangle)]
-pub extern "C" fn mvd_club_prc(payload: &[u8]) -> usize
+pub fn mvd_club_prc(payload: &[u8]) -> usize
     ensures { result ≡ club_points payload.now }
 {
     let r = ClubPrc::decode(payload);
     r.points
 }
 
-#[unsafe(no_mangle)]
-pub extern "C" fn mvd_club_prc_point(
+pub fn mvd_club_prc_point(
     payload: &[u8],
     index: usize,
     whole: &mut [i32; 9],
@@ -48,8 +46,7 @@ pub extern "C" fn mvd_club_prc_point(
     }
 }
 
-#[unsafe(no_mangle)]
-pub extern "C" fn mvd_encode_request(start_index: u16, buf: &mut [u8], values: &mut [u64; 3]) -> u64
+pub fn mvd_encode_request(start_index: u16, buf: &mut [u8], values: &mut [u64; 3]) -> u64
     ensures passed { Passed (writing (request_of start_index) buf.old 0) tt values.old result tt values.new }
     ensures buf_after { buf.new ≡ written (request_of start_index) buf.old 0 }
 {
