@@ -13,8 +13,7 @@ use addr::{BusAddr, ResultBusAddr};
 use error::ResultUsize;
 use frame::{RawFrame, ResultRawFrame};
 
-#[unsafe(no_mangle)]
-pub extern "C" fn mvd_open(wire: &[u8], header: &mut [u64; 4], values: &mut [u64; 3]) -> u64
+pub fn mvd_open(wire: &[u8], header: &mut [u64; 4], values: &mut [u64; 3]) -> u64
     ensures { Passed (on_yes words_of (open_rule wire.now))
         header.old values.old result header.new values.new }
 {
@@ -34,13 +33,7 @@ pub extern "C" fn mvd_open(wire: &[u8], header: &mut [u64; 4], values: &mut [u64
     }
 }
 
-#[unsafe(no_mangle)]
-pub extern "C" fn mvd_copy_payload(
-    wire: &[u8],
-    buf: &mut [u8],
-    len: &mut usize,
-    values: &mut [u64; 3],
-) -> u64
+pub fn mvd_copy_payload(wire: &[u8], buf: &mut [u8], len: &mut usize, values: &mut [u64; 3]) -> u64
     ensures reply { Passed (on_yes length (copy_rule wire.now (length buf.old)))
         len.old values.old result len.new values.new }
     ensures bytes { buf.new ≡ filled (copy_rule wire.now (length buf.old)) buf.old }
@@ -54,8 +47,7 @@ pub extern "C" fn mvd_copy_payload(
     }
 }
 
-#[unsafe(no_mangle)]
-pub extern "C" fn mvd_encode(
+pub fn mvd_encode(
     dest: u8,
     src: u8,
     type_id: u8,
