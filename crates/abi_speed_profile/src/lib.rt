@@ -11,8 +11,7 @@ ghost use Rattle.abi_speed_profile.specs.Numbers.{profile_whole, profile_numbers
 use abi::{byte, tell};
 use speed_profile::{ResultSpeedProfile, SpeedProfile};
 
-#[unsafe(no_mangle)]
-pub extern "C" fn mvd_speed_profile(
+pub fn mvd_speed_profile(
     payload: &[u8],
     speeds: &mut [f64],
     whole: &mut [i32; 4],
