@@ -17,13 +17,7 @@ use flight::{FlightResult, FlightResultV1};
 use numbers::Message;
 
 // `FlightResult::is_failed` of a payload's record, by the rule of a number.
-#[unsafe(no_mangle)]
-pub extern "C" fn mvd_is_failed(
-    rule: usize,
-    payload: &[u8],
-    failed: &mut u8,
-    values: &mut [u64; 3],
-) -> u64
+pub fn mvd_is_failed(rule: usize, payload: &[u8], failed: &mut u8, values: &mut [u64; 3]) -> u64
     ensures { Passed (and_then (rule_numbered rule)
         (λ by. besides (λ r. flag_of (flight_failed by r)) (decode_rule Message.FlightResult flight_result payload.now)))
         failed.old values.old result failed.new values.new }
@@ -35,13 +29,7 @@ pub extern "C" fn mvd_is_failed(
 }
 
 // `FlightResultV1::is_failed` of a payload's record, by the rule of a number.
-#[unsafe(no_mangle)]
-pub extern "C" fn mvd_is_failed_v1(
-    rule: usize,
-    payload: &[u8],
-    failed: &mut u8,
-    values: &mut [u64; 3],
-) -> u64
+pub fn mvd_is_failed_v1(rule: usize, payload: &[u8], failed: &mut u8, values: &mut [u64; 3]) -> u64
     ensures { Passed (and_then (rule_numbered rule)
         (λ by. besides (λ r. flag_of (flight_v1_failed by r)) (decode_rule Message.FlightResultV1 flight_result_v1 payload.now)))
         failed.old values.old result failed.new values.new }
@@ -53,12 +41,7 @@ pub extern "C" fn mvd_is_failed_v1(
 }
 
 // `is_model_failure` of a payload's record: 1 for yes.
-#[unsafe(no_mangle)]
-pub extern "C" fn mvd_is_model_failure(
-    payload: &[u8],
-    failed: &mut u8,
-    values: &mut [u64; 3],
-) -> u64
+pub fn mvd_is_model_failure(payload: &[u8], failed: &mut u8, values: &mut [u64; 3]) -> u64
     ensures { Passed (besides (λ r. flag_of (model_failure r)) (decode_rule Message.FlightResult flight_result payload.now))
         failed.old values.old result failed.new values.new }
 {
@@ -66,8 +49,7 @@ pub extern "C" fn mvd_is_model_failure(
 }
 
 // `is_no_read` of a payload's record: 1 for yes.
-#[unsafe(no_mangle)]
-pub extern "C" fn mvd_is_no_read(payload: &[u8], unread: &mut u8, values: &mut [u64; 3]) -> u64
+pub fn mvd_is_no_read(payload: &[u8], unread: &mut u8, values: &mut [u64; 3]) -> u64
     ensures { Passed (besides (λ r. flag_of (no_read r)) (decode_rule Message.FlightResultV1 flight_result_v1 payload.now))
         unread.old values.old result unread.new values.new }
 {
