@@ -13,8 +13,7 @@ use abi::{byte, tell, wide};
 use error::ResultUnit;
 use prc::{PrcData, PrcPoint, ResultPrcData};
 
-#[unsafe(no_mangle)]
-pub extern "C" fn mvd_prc_data(
+pub fn mvd_prc_data(
     payload: &[u8],
     sequence: &mut i16,
     points: &mut usize,
@@ -34,8 +33,7 @@ pub extern "C" fn mvd_prc_data(
     }
 }
 
-#[unsafe(no_mangle)]
-pub extern "C" fn mvd_prc_point(
+pub fn mvd_prc_point(
     payload: &[u8],
     index: usize,
     whole: &mut [i32; 8],
