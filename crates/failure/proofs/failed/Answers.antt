@@ -17,9 +17,10 @@ unfolding fails
 returns-then-at_most_zero-2 c =
     let speed = c.at_most_zero-in-Rule2.ensures in
     let two : c.if-at_most_zero.value ≡ (at_most_zero c.args.speed || at_most_zero c.args.flight_time) =
-        elim c.if-at_most_zero.branch
-        [ then-at_most_zero w ↦ w.value-is ∙ said-yes _ w.if-at_most_zero.true speed
-        | else-at_most_zero w ↦ w.value-is ∙ said-no _ w.if-at_most_zero.false speed w.at_most_zero-else-at_most_zero.ensures ] in
+    elim c.if-at_most_zero.branch [
+      | then-at_most_zero w ↦ w.value-is ∙ said-yes _ w.if-at_most_zero.true speed
+      | else-at_most_zero w ↦ w.value-is ∙ said-no _ w.if-at_most_zero.false speed w.at_most_zero-else-at_most_zero.ensures
+    ] in
     rw c.in-Rule2.is (said-yes _ c.if-at_most_zero-2.true two)
 
 pub returns-else-at_most_zero-2 : goal.returns-else-at_most_zero-2
@@ -27,7 +28,8 @@ unfolding fails
 returns-else-at_most_zero-2 c =
     let speed = c.at_most_zero-in-Rule2.ensures in
     let two : c.if-at_most_zero.value ≡ (at_most_zero c.args.speed || at_most_zero c.args.flight_time) =
-        elim c.if-at_most_zero.branch
-        [ then-at_most_zero w ↦ w.value-is ∙ said-yes _ w.if-at_most_zero.true speed
-        | else-at_most_zero w ↦ w.value-is ∙ said-no _ w.if-at_most_zero.false speed w.at_most_zero-else-at_most_zero.ensures ] in
+    elim c.if-at_most_zero.branch [
+      | then-at_most_zero w ↦ w.value-is ∙ said-yes _ w.if-at_most_zero.true speed
+      | else-at_most_zero w ↦ w.value-is ∙ said-no _ w.if-at_most_zero.false speed w.at_most_zero-else-at_most_zero.ensures
+    ] in
     rw c.in-Rule2.is (said-no _ c.if-at_most_zero-2.false two c.below_zero.ensures)

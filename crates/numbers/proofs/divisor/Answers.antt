@@ -1,6 +1,6 @@
 -- The list's entry is the rule's code.
 -- The message's entries start at its shape's `first`, and `listed` reads them.
-use Rattle.std.proofs.Common.{ℕ, ◌+◌, ◌∙◌, ap, get_or}
+use Rattle.std.proofs.Common.{◌+◌, ◌∙◌, ap, get_or}
 use Rattle.numbers.specs.declared.Shape.{Shape}
 use Rattle.numbers.proofs.Divisors.{divisors, listed}
 use Rattle.numbers.proofs.divisor.Goals as goal

@@ -1,6 +1,6 @@
 -- Message by message and test by test: D4 and ED change 0 alone, E8 all that is below 1.
 -- Where the number is kept, the check finds it.
-use Rattle.std.proofs.Common.{◌≡◌, ℤ, ◌∙◌, ap, sym, to_z, of_z, w32}
+use Rattle.std.proofs.Common.{◌≡◌, ℤ, ◌∙◌, ap, sym}
 use mir.Facts.{to_z-of_z}
 use lib.Ieee.{of_int, of_bits}
 use Rattle.numbers.specs.declared.Message.{Message}
