@@ -23,3 +23,9 @@ loop-turns-preserved c =
     let l = c.loop-turns in
     let r = c.piece-ran in
     (further l.session l.hold _ l.lines r.result r.new.hold r.new.out r.ensures (omega arith) (omega arith) l.invariant.0, omega arith, omega arith, omega arith)
+
+pub returns-then-not-print : goal.returns-then-not-print
+returns-then-not-print c =
+    let l = c.loop-turns in
+    let r = c.piece-ran in
+    further l.session l.hold _ l.lines r.result r.new.hold r.new.out r.ensures (omega arith) (omega arith) l.invariant.0
