@@ -16,7 +16,7 @@ pub enum LeagueRule {
     Rule2,
 }
 
-#[derive(Drop)]
+#[derive(Clone, Copy)]
 pub enum ResultLeagueRule {
     Ok(LeagueRule),
     Err(WireError),

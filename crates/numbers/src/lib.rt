@@ -24,7 +24,7 @@ pub enum Message {
 }
 
 // What differs between the messages.
-#[derive(Drop)]
+#[derive(Clone, Copy)]
 pub struct Shape {
     // Type byte
     pub kind: u8,
@@ -40,7 +40,7 @@ pub struct Shape {
     pub first: usize,
 }
 
-#[derive(Drop)]
+#[derive(Clone, Copy)]
 pub enum Field {
     Count(i32),
     Figure(f64),

@@ -10,7 +10,7 @@ ghost use Rattle.shot_text.specs.Search.{Says, StandsAt, Stands, bytes};
 pub struct ShotText {}
 
 // Where a text lies in its payload.
-#[derive(Drop)]
+#[derive(Clone, Copy)]
 pub struct TextPlace {
     pub start: usize,
     pub len: usize,
