@@ -1,6 +1,6 @@
 -- There are calls as a run of the program has them (specs/Program), from fresh, whatever the hold buffer is and whatever the pieces are,
 -- while all of them are less than can be counted. So the theorems of proofs/Printed are about something.
-use Prim.Native.Nat.{ℕ, ◌+◌, ◌^◌, ◌<◌}
+use Prim.Native.Nat.{ℕ, ◌^◌, ◌<◌}
 use mathlib.Core.Path.{◌≡◌, refl}
 use mathlib.Core.List.{List, [], ◌∷◌, ◌++◌, append_assoc, append-nil}
 use native.Mathlib.Omega.{arith}

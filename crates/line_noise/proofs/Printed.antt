@@ -20,10 +20,10 @@ use Rattle.stream.specs.Noise.{counts_over}
 use Rattle.stream.proofs.Ends.{good-call, feed-moves, allowed, feeds-calls}
 use Rattle.stream.proofs.Noise.{counts-are, line-below}
 use Rattle.session.proofs.Printed.{line-shown}
-use Rattle.line_noise.specs.Piece.{Between, between, offered, after_offer, wholly, Outcome, take_rule, outcome_of}
+use Rattle.line_noise.specs.Piece.{Between, offered, after_offer, wholly, Outcome, take_rule, outcome_of}
 use Rattle.line_noise.specs.Program.{first, Pieces, Shown, in_order, text_over, noise_text, Lines, Run}
 use Rattle.line_noise.specs.Program as program
-use Rattle.line_noise.proofs.Rules.{take-bad, take-full, take-free}
+use Rattle.line_noise.proofs.Rules.{take-full, take-free}
 use Rattle.line_noise.proofs.Pieces.{Open, open_after}
 
 -- ---- the pieces are calls of the splitter

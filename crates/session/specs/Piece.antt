@@ -1,6 +1,6 @@
 -- One piece of the input: the splitter is fed until all of it is taken, and each event's line is put behind the last.
 -- The rule fixes the reply, the session, and every byte of the two lent buffers.
-use Rattle.std.specs.Prelude.{ℕ, zero, suc, ◌+◌, ◌-◌, ◌*◌, ◌^◌, min, cond, List, [], ◌∷◌, ◌++◌, length, take, drop, nat_le, nat_lt}
+use Rattle.std.specs.Prelude.{ℕ, zero, suc, ◌-◌, ◌*◌, ◌^◌, min, cond, List, [], ◌∷◌, ◌++◌, length, take, drop, nat_le, nat_lt}
 use Rattle.error.specs.Refusal.{Told, yes, no, on_yes, filled}
 use Rattle.error.specs.Result.{told_usize}
 use Rattle.splitter.specs.Feed.{Given, feed_rule, is_bad, is_full}

@@ -1,6 +1,6 @@
 -- `encode` meets its contract: each return is the rule's case.
 -- A refusal stores nothing; a success stores the wire at the front (`front`).
-use Rattle.std.proofs.Common.{◌≡◌, ℕ, ◌<◌, ◌≤◌, List, [], ◌∷◌, length, refl, ap, arith}
+use Rattle.std.proofs.Common.{◌≡◌, ℕ, ◌<◌, ◌≤◌, [], ◌∷◌, length, refl, ap, arith}
 use Rattle.error.specs.Refusal.{yes, no}
 use Rattle.encoding.specs.Wire.{Fields, fields, wire_of}
 use Rattle.encoding.specs.Encode.{encode_rule}

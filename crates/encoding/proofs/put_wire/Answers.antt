@@ -1,6 +1,6 @@
 -- `put_wire` meets its contract: its stores, run after run, are the wire's.
 -- There is room for each run, since there is room for the wire; the sum is that of the bytes stored so far.
-use Rattle.std.proofs.Common.{rules, ◌≡◌, ℕ, ◌+◌, ◌-◌, ◌/◌, ◌%◌, ◌≤◌, Bool, true, false, if◌then◌else◌, List, [], ◌∷◌, ◌++◌, length, take, drop, set, refl, ◌∙◌, arith, length-append, length-set}
+use Rattle.std.proofs.Common.{◌≡◌, ℕ, ◌+◌, ◌-◌, ◌≤◌, Bool, true, if◌then◌else◌, List, [], ◌∷◌, length, take, drop, set, refl, ◌∙◌, arith, length-set}
 use Rattle.std.proofs.lemmas.List.Edits.{sets}
 use Rattle.addr.specs.declared.BusAddr.{BusAddr}
 use Rattle.addr.specs.Address.{byte_of}
@@ -71,9 +71,10 @@ put_part-at_end-requires c =
     let k = c.sum_of-sum in
     let ends : q.result ≤ length a.wire.now = omega (arith, s, p.ensures.0, q.ensures.0) in
     let sum = sum-is f _ is _ c.requires.1 a.wire.now p.new.buf q.new.buf p.result q.result a.plan.counted a.plan.checksum ends
-        p.ensures.1 p.ensures.0 q.ensures.1 q.ensures.0 c.requires.0 k.ensures in
-    (omega arith,
-    omega (arith, wire-length f _ is k.result sum, p.ensures.0, q.ensures.0, p.auto.buf, q.auto.buf, length-set a.wire.now 0 0xF0, c.requires.1))
+    p.ensures.1 p.ensures.0 q.ensures.1 q.ensures.0 c.requires.0 k.ensures in (
+      omega arith,
+      omega (arith, wire-length f _ is k.result sum, p.ensures.0, q.ensures.0, p.auto.buf, q.auto.buf, length-set a.wire.now 0 0xF0, c.requires.1),
+    )
 
 pub bounds-wire-at_end : goal.bounds-wire-at_end
 bounds-wire-at_end c =
@@ -86,7 +87,7 @@ bounds-wire-at_end c =
     let k = c.sum_of-sum in
     let ends : q.result ≤ length a.wire.now = omega (arith, s, p.ensures.0, q.ensures.0) in
     let sum = sum-is f _ is _ c.requires.1 a.wire.now p.new.buf q.new.buf p.result q.result a.plan.counted a.plan.checksum ends
-        p.ensures.1 p.ensures.0 q.ensures.1 q.ensures.0 c.requires.0 k.ensures in
+    p.ensures.1 p.ensures.0 q.ensures.1 q.ensures.0 c.requires.0 k.ensures in
     let r = c.put_part-at_end in
     let whole = wire-length f _ is k.result sum in
     omega (arith, whole, p.ensures.0, q.ensures.0, r.ensures.0, p.auto.buf, q.auto.buf, r.auto.buf, length-set a.wire.now 0 0xF0, c.requires.1)
@@ -102,7 +103,7 @@ overflow_add-result c =
     let k = c.sum_of-sum in
     let ends : q.result ≤ length a.wire.now = omega (arith, s, p.ensures.0, q.ensures.0) in
     let sum = sum-is f _ is _ c.requires.1 a.wire.now p.new.buf q.new.buf p.result q.result a.plan.counted a.plan.checksum ends
-        p.ensures.1 p.ensures.0 q.ensures.1 q.ensures.0 c.requires.0 k.ensures in
+    p.ensures.1 p.ensures.0 q.ensures.1 q.ensures.0 c.requires.0 k.ensures in
     let r = c.put_part-at_end in
     let whole = wire-length f _ is k.result sum in
     omega (arith, whole, p.ensures.0, q.ensures.0, r.ensures.0, c.requires.1)
@@ -118,10 +119,9 @@ returns c =
     let k = c.sum_of-sum in
     let ends : q.result ≤ length a.wire.now = omega (arith, s, p.ensures.0, q.ensures.0) in
     let sum = sum-is f _ is _ c.requires.1 a.wire.now p.new.buf q.new.buf p.result q.result a.plan.counted a.plan.checksum ends
-        p.ensures.1 p.ensures.0 q.ensures.1 q.ensures.0 c.requires.0 k.ensures in
+    p.ensures.1 p.ensures.0 q.ensures.1 q.ensures.0 c.requires.0 k.ensures in
     let r = c.put_part-at_end in
-    let whole = wire-length f _ is k.result sum in
-    (
+    let whole = wire-length f _ is k.result sum in (
       omega (arith, whole, p.ensures.0, q.ensures.0, r.ensures.0),
       wire-stores f _ is k.result sum a.wire.now p.new.buf q.new.buf r.new.buf p.result q.result r.result
           p.ensures.1 p.ensures.0 q.ensures.1 q.ensures.0 r.ensures.1 r.ensures.0,

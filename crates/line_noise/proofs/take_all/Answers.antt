@@ -1,6 +1,6 @@
 -- `take_all` meets its contract: each return is a case of the rule.
 -- The state is tested before what can be counted, as the rule has it.
-use Rattle.std.proofs.Common.{◌≡◌, sym, ap, ◌∙◌}
+use Rattle.std.proofs.Common.{sym, ap, ◌∙◌}
 use Rattle.error.specs.Refusal.{yes}
 use Rattle.line_noise.specs.Piece.{between, outcome}
 use Rattle.line_noise.proofs.Rules.{take-bad, take-full, take-free}

@@ -10,7 +10,7 @@ pub returns-then-got-need : goal.returns-then-got-need
 returns-then-got-need c =
     let a = c.args in
     let whole : c.name_width.result + c.digits-width.result + 2 ≡ length (count_text a.which a.n) =
-        omega (arith, count-length a.which a.n, c.name_width.ensures.0, c.digits-width.ensures.0)
+    omega (arith, count-length a.which a.n, c.name_width.ensures.0, c.digits-width.ensures.0)
     in
     refused-line (count_text a.which a.n) a.out.now _ whole (omega (arith, c.name_width.ensures.1, c.digits-width.ensures.1)) c.if-got-need.true
 
@@ -18,7 +18,7 @@ pub returns : goal.returns
 returns c =
     let a = c.args in
     let whole : c.name_width.result + c.digits-width.result + 2 ≡ length (count_text a.which a.n) =
-        omega (arith, count-length a.which a.n, c.name_width.ensures.0, c.digits-width.ensures.0)
+    omega (arith, count-length a.which a.n, c.name_width.ensures.0, c.digits-width.ensures.0)
     in
     ended-line (count_text a.which a.n) a.out.now _ whole (omega (arith, c.name_width.ensures.1, c.digits-width.ensures.1)) c.if-got-need.false
     (put_then c.put_name-at.ensures c.put_number-at.ensures) (count-parts a.which a.n)

@@ -15,7 +15,7 @@ returns-then-got-need c =
     let l = c.digits-len_width in
     let s = c.said_width in
     let whole : n.result + l.result + s.result + 2 ≡ length (frame_text a.number a.len told) =
-        omega (arith, frame-length a.number a.len told, n.ensures.0, l.ensures.0, s.ensures.0)
+    omega (arith, frame-length a.number a.len told, n.ensures.0, l.ensures.0, s.ensures.0)
     in
     refused-line (frame_text a.number a.len told) a.out.now _ whole (omega (arith, n.ensures.1, l.ensures.1, s.ensures.1)) c.if-got-need.true
 
@@ -27,7 +27,7 @@ returns c =
     let l = c.digits-len_width in
     let s = c.said_width in
     let whole : n.result + l.result + s.result + 2 ≡ length (frame_text a.number a.len told) =
-        omega (arith, frame-length a.number a.len told, n.ensures.0, l.ensures.0, s.ensures.0)
+    omega (arith, frame-length a.number a.len told, n.ensures.0, l.ensures.0, s.ensures.0)
     in
     ended-line (frame_text a.number a.len told) a.out.now _ whole (omega (arith, n.ensures.1, l.ensures.1, s.ensures.1)) c.if-got-need.false
     (put_then c.put_decimal-at.ensures (put_then c.put_number-at.ensures c.put_said-at.ensures)) (frame-parts a.number a.len told)

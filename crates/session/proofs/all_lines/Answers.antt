@@ -1,9 +1,9 @@
 -- One call of the splitter in `all_lines`: what is taken moves on, and the line stands behind those that are put.
 -- A part of the piece or of the buffer of lines goes from an index to the end (`part-from`).
-use Rattle.std.proofs.Common.{◌≡◌, ℕ, ◌+◌, ◌-◌, ◌≤◌, length, drop, arith}
+use Rattle.std.proofs.Common.{◌-◌, length, drop, arith}
 use Rattle.session.specs.Piece.{stage}
 use Rattle.session.specs.Private.{Stepped}
-use Rattle.session.proofs.Pieces.{Going, part-from, going, moves, inside, goes_on, finished}
+use Rattle.session.proofs.Pieces.{part-from, going, moves, inside, goes_on, finished}
 use Rattle.session.proofs.all_lines.Goals as goal
 
 pub loop-at-init : goal.loop-at-init
@@ -17,7 +17,7 @@ overflow_add-at c =
     let l = c.loop-at in
     let e = c.next_event-step in
     let s : Stepped (stage l.session l.hold) (drop l.at a.chunk.now) (drop l.written l.out) e.result e.new.hold e.new.out =
-        rw (part-from a.chunk.now l.at, part-from l.out l.written) at e.ensures
+    rw (part-from a.chunk.now l.at, part-from l.out l.written) at e.ensures
     in
     omega (arith, inside (stage a.start a.hold.now) a.chunk.now a.out.now c.requires.chunk_in_bounds l.invariant c.loop-at-test.true s)
 
@@ -27,7 +27,7 @@ loop-at-smaller c =
     let l = c.loop-at in
     let e = c.next_event-step in
     let s : Stepped (stage l.session l.hold) (drop l.at a.chunk.now) (drop l.written l.out) e.result e.new.hold e.new.out =
-        rw (part-from a.chunk.now l.at, part-from l.out l.written) at e.ensures
+    rw (part-from a.chunk.now l.at, part-from l.out l.written) at e.ensures
     in
     omega (
       arith,
@@ -41,7 +41,7 @@ loop-at-preserved c =
     let l = c.loop-at in
     let e = c.next_event-step in
     let s : Stepped (stage l.session l.hold) (drop l.at a.chunk.now) (drop l.written l.out) e.result e.new.hold e.new.out =
-        rw (part-from a.chunk.now l.at, part-from l.out l.written) at e.ensures
+    rw (part-from a.chunk.now l.at, part-from l.out l.written) at e.ensures
     in
     goes_on (stage a.start a.hold.now) a.chunk.now a.out.now c.requires.chunk_in_bounds l.invariant c.loop-at-test.true s
     (length l.out - l.written) (omega arith) e.auto.hold

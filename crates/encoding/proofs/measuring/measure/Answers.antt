@@ -2,7 +2,7 @@
 -- Their lengths add up without wrapping, since the payload has at most 65,535 bytes.
 use Rattle.std.proofs.Common.{◌≡◌, ℕ, List, [], ◌∷◌}
 use Rattle.addr.specs.Address.{byte_of}
-use Rattle.encoding.specs.Wire.{fields, checksum_of}
+use Rattle.encoding.specs.Wire.{fields}
 use Rattle.encoding.proofs.Writing.{checksum-tallied, wire-measured}
 use Rattle.encoding.proofs.measuring.measure.Goals as goal
 

@@ -1,6 +1,6 @@
 -- One byte more of `code_each`: both lists are right for it too.
 -- What is stored at k is worked out of the byte's code.
-use Rattle.std.proofs.Common.{ℕ, get_or, length, arith, ◌∙◌}
+use Rattle.std.proofs.Common.{get_or, length, arith, ◌∙◌}
 use Rattle.std.proofs.Math.ListN.{length-set}
 use Rattle.general.proofs.Stores.{front-more}
 use Rattle.stuffing.specs.Stuff.{stuff_byte}

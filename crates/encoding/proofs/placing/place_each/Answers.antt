@@ -47,5 +47,5 @@ loop-k-preserved c =
     let span = c.requires.2.widths k c.loop-k-test.true in
     let stored = byte-stored b (get_or c.args.width.now k 0) (get_or c.args.last.now k 0) span (c.requires.2.lasts k c.loop-k-test.true) c.loop-k.buf o in
     let e = stored_on (stuff_byte b) (stuff (drop (k + 1) s)) c.loop-k.buf o (stuff-at s k c.loop-k-test.true)
-        (ap (λ (n : ℕ). o + n) span) stored i.1 i.2 i.3 in
+    (ap (λ (n : ℕ). o + n) span) stored i.1 i.2 i.3 in
     (omega arith, e.0, e.1, e.2)

@@ -1,9 +1,8 @@
 -- `put_said` meets its contract: each answer of opening has its words, put one behind the other.
 -- The room asked for is that of the words of the case at hand.
-use Rattle.std.proofs.Common.{◌≡◌, ◌+◌, List, ℕ, length, sym, ap, ◌∙◌, subst, arith}
+use Rattle.std.proofs.Common.{length, sym, ap, ◌∙◌, subst, arith}
 use Rattle.frame.specs.declared.ResultRawFrame.{ResultRawFrame}
 use Rattle.frame.specs.Rule.{told_raw_frame}
-use Rattle.report.specs.Text.{decimal_of}
 use Rattle.report.specs.Line.{spaced, result_words}
 use Rattle.report.specs.Private.{Put}
 use Rattle.report.proofs.Stores.{put_then, put-length}

@@ -21,10 +21,10 @@ returns-in-Err c =
     let e = c.in-Err.e in
     let s = sym (ap (λ (x : ResultRawFrame). length (spaced (result_words (told_raw_frame x)))) c.in-Err.is) in
     let k : c.digits-in-Err.result ≡ length (decimal_of (number_of e)) =
-        c.digits-in-Err.ensures.0 ∙ ap (λ (m : ℕ). length (decimal_of m)) c.number.ensures
+    c.digits-in-Err.ensures.0 ∙ ap (λ (m : ℕ). length (decimal_of m)) c.number.ensures
     in
     let l : length (decimal_of c.number.result) ≤ 3 = decimal-most 2 c.number.result (omega (arith, c.number.type_inv)) in
     let w : c.digits-in-Err.result + c.values_width.result + 4 ≡ length (spaced (result_words (no (number_of e) (values_of e)))) =
-        omega (arith, no-width (number_of e) (values_of e), k, c.values_width.ensures.0)
+    omega (arith, no-width (number_of e) (values_of e), k, c.values_width.ensures.0)
     in
     (w ∙ s, omega (arith, l, c.digits-in-Err.ensures.0, c.values_width.ensures.1))

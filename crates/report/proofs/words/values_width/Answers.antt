@@ -11,7 +11,7 @@ loop-i-preserved c =
     let vs = values_of c.args.e in
     let h : l.i < length vs = omega (arith, c.count-n.ensures) in
     let d : c.digits.result ≡ length (decimal_of (get_or vs l.i 0)) =
-        c.digits.ensures.0 ∙ ap (λ (v : ℕ). length (decimal_of v)) c.value.ensures
+    c.digits.ensures.0 ∙ ap (λ (v : ℕ). length (decimal_of v)) c.value.ensures
     in
     let w : l.width + (c.digits.result + 1) ≡ length (values_text (take (suc l.i) vs)) = omega (arith, wider vs l.i h, d, l.invariant.1.0) in
     (omega arith, (w ∙ ap (λ (k : ℕ). length (values_text (take k vs))) (sym (add-one l.i)), omega (arith, l.invariant.1.1, c.digits.ensures.1)))

@@ -1,7 +1,7 @@
 -- `Session::piece` meets its contract: each return is a case of the rule.
 -- The state is tested before the counts, and these before the room, as the rule has it.
-use Rattle.std.proofs.Common.{◌≡◌, ◌<◌, ◌≤◌, length, sym, ◌∙◌}
-use Rattle.session.specs.Piece.{stage, room_for}
+use Rattle.std.proofs.Common.{sym, ◌∙◌}
+use Rattle.session.specs.Piece.{stage}
 use Rattle.session.proofs.Rules.{piece-bad, piece-full, piece-short, piece-fits}
 use Rattle.session.proofs.Session.piece.Goals as goal
 
