@@ -22,6 +22,7 @@ use error::{ResultUsize, WireError};
 use marks::{END, START};
 
 // The wire of a frame at the buffer's front, and its length.
+#[tactic(auto, unfolding(crate::specs::Encode::encode_rule))]
 pub fn encode(
     dest: BusAddr,
     src: BusAddr,
