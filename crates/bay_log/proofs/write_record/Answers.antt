@@ -29,12 +29,12 @@ returns c =
     let b1 = c.write_uint32.new.buf in
     let b8 = c.write_shown-5.new.buf in
     let e =
-        record-laid a.event a.payload.now a.buf.now c.if-room-lt32.false
-        b1 c.write_int24.new.buf c.write_shown.new.buf c.write_shown-2.new.buf c.write_shown-3.new.buf
-        c.write_shown-4.new.buf b8 c.write_int32.new.buf
-        c.write_uint32.ensures.1
-        (c.write_int24.ensures.1 ∙ ap (λ (z : ℤ). written (int_bytes 3 z) (set b1 4 0xD4) 5) (held w32 c.int24_at.ensures c.int24_at.type_inv))
-        c.write_shown.ensures c.write_shown-2.ensures c.write_shown-3.ensures c.write_shown-4.ensures c.write_shown-5.ensures
-        (c.write_int32.ensures.1 ∙ ap (λ (z : ℤ). written (int_bytes 4 z) b8 28) (held w32 c.int24_at-2.ensures c.int24_at-2.type_inv)) in
+    record-laid a.event a.payload.now a.buf.now c.if-room-lt32.false
+    b1 c.write_int24.new.buf c.write_shown.new.buf c.write_shown-2.new.buf c.write_shown-3.new.buf
+    c.write_shown-4.new.buf b8 c.write_int32.new.buf
+    c.write_uint32.ensures.1
+    (c.write_int24.ensures.1 ∙ ap (λ (z : ℤ). written (int_bytes 3 z) (set b1 4 0xD4) 5) (held w32 c.int24_at.ensures c.int24_at.type_inv))
+    c.write_shown.ensures c.write_shown-2.ensures c.write_shown-3.ensures c.write_shown-4.ensures c.write_shown-5.ensures
+    (c.write_int32.ensures.1 ∙ ap (λ (z : ℤ). written (int_bytes 4 z) b8 28) (held w32 c.int24_at-2.ensures c.int24_at-2.type_inv)) in
     simp (le-ltb (length a.payload.now) (shape_of FlightResult).least c.if-got.false, le-ltb (length a.buf.now) 32 c.if-room-lt32.false)
     (λ i. (yes tt, e i))
