@@ -2,7 +2,7 @@
 -- `Held` is what a head that was answered tells of the fields behind it: where it says that the payload lies, it stands.
 use mathlib.Core.Path.{◌≡◌, refl, sym, ap, ◌∙◌, subst}
 use mathlib.Core.List.{List, [], ◌∷◌}
-use Prim.Native.Nat.{ℕ, ◌-◌, ◌≤◌}
+use Prim.Native.Nat.{ℕ, ◌-◌, ◌≤◌, ◌<◌}
 use native.Mathlib.Omega.{arith}
 use lib.Dec.{ltb}
 use lib.ListN.{length, take, drop, length-map, length-take}
@@ -19,7 +19,7 @@ use Rattle.checking.proofs.Located.{Located, located}
 use Rattle.frame.specs.Wire.{Fields}
 use Rattle.frame.specs.Rule.{check_rule, room_rule, parse_rule, payload_told, copy_rule}
 use Rattle.frame.specs.Private.{raw, slots}
-use Rattle.frame.proofs.Cases.{parse-refused, parse-fits}
+use Rattle.frame.proofs.Cases.{parse-refused, parse-room, parse-fits}
 use Rattle.frame.proofs.Walking.{raw-proper, slots-proper}
 
 pub parsed : (w : List ℕ) (room : ℕ) (f : Fields) → parse_rule w room ≡ yes f → (Checked w f) × (length f.payload ≤ room)
@@ -74,6 +74,19 @@ held-yes (no k vs) w h e g = let z : ◌≡◌ {A = ℕ} 0 1 = cc in absurd (let
 
 pub held : (w : List ℕ) (h : Head) → yes h ≡ on_yes (head_of w) (check_rule w) → Held w h
 held w h e = held-yes (check_rule w) w h refl e
+
+-- what is told of a copy, by the head that was answered: its length where there is room, else 8
+pub told_room : (w : List ℕ) (room : ℕ) (h : Head) → yes h ≡ on_yes (head_of w) (check_rule w) → h.len ≤ room → yes h.len ≡ on_yes length (copy_rule w room)
+told_room w room h e l =
+    let k = held w h e in
+    rw (parse-fits w room k.value k.is (omega (arith, k.len))) (ap yes k.len)
+
+pub told_cramped : (w : List ℕ) (room : ℕ) (h : Head) → yes h ≡ on_yes (head_of w) (check_rule w) → room < h.len
+    → no 8 (h.len ∷ room ∷ []) ≡ on_yes length (copy_rule w room)
+told_cramped w room h e l =
+    let k = held w h e in
+    let short : room < length k.value.payload = rw (← k.len) l in
+    rw (parse-room w room k.value k.is short, ← k.len) refl
 
 -- ---- a buffer as long as the wire has room for its payload
 

@@ -67,6 +67,7 @@ impl RawFrame {
     }
 
     // The payload of a wire at the buffer's front, and its length; the wire is checked as `open` checks it, and then the room.
+    #[tactic(auto, using(crate::proofs::Parsed::told_room, crate::proofs::Parsed::told_cramped))]
     pub fn copy_payload(wire: &[u8], buf: &mut [u8]) -> ResultUsize
         ensures reply { told_usize result ≡ on_yes length (copy_rule wire.now (length buf.old)) }
         ensures bytes { buf.new ≡ filled (copy_rule wire.now (length buf.old)) buf.old }

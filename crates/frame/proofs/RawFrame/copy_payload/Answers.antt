@@ -1,8 +1,8 @@
 -- `RawFrame::copy_payload`: a wire is checked, then the room is tested, then its payload is copied.
 -- A refusal leaves the buffer as it was, and a success its rest.
-use Rattle.std.proofs.Common.{◌≡◌, ℕ, ◌≤◌, ◌<◌, List, [], ◌∷◌, ◌++◌, length, take, drop, refl, sym, ap, ◌∙◌, arith, length-take-le}
+use Rattle.std.proofs.Common.{◌≡◌, ℕ, ◌≤◌, ◌<◌, List, ◌++◌, length, take, drop, refl, sym, ◌∙◌, arith, length-take-le}
 use Rattle.error.specs.declared.WireError.{WireError}
-use Rattle.error.specs.Refusal.{yes, no, on_yes, filled, refused, number_of, values_of}
+use Rattle.error.specs.Refusal.{yes, on_yes, filled, refused, number_of, values_of}
 use Rattle.error.proofs.Tells.{part-refused}
 use Rattle.checking.specs.declared.Head.{Head}
 use Rattle.checking.specs.Rule.{head_of}
@@ -29,23 +29,19 @@ module _ (w buf : List ℕ) (head : Head) (e : yes head ≡ on_yes (head_of w) (
   seen : Held w head
   seen = held w head e
 
-  -- there is no room: that is answered, and the buffer is as it was
-  cramped : length buf < head.len → (no 8 (head.len ∷ length buf ∷ []) ≡ on_yes length (copy_rule w (length buf))) × (buf ≡ filled (copy_rule w (length buf)) buf)
+  -- there is no room: the buffer is as it was
+  cramped : length buf < head.len → buf ≡ filled (copy_rule w (length buf)) buf
   cramped h =
       let short : length buf < length seen.value.payload = rw (← seen.len) h in
-      rw (parse-room w (length buf) seen.value seen.is short, ← seen.len) (refl, refl)
+      rw (parse-room w (length buf) seen.value seen.is short) refl
 
-  -- the payload fits: the answer and the buffer, whatever holds the bytes that were copied
-  answered : {b : List ℕ} → head.len ≤ length buf → b ≡ raw 0 (part_of w head)
-      → (yes head.len ≡ on_yes length (copy_rule w (length buf))) × (b ++ drop head.len buf ≡ filled (copy_rule w (length buf)) buf)
-  answered {b} fits q =
-      rw (parse-fits w (length buf) seen.value seen.is (omega (arith, seen.len, fits)))
-      (ap yes seen.len, λ j. (q ∙ seen.bytes) j ++ drop (seen.len j) buf)
+  -- the payload fits: the buffer, whatever holds the bytes that were copied
+  stored : {b : List ℕ} → head.len ≤ length buf → b ≡ raw 0 (part_of w head) → b ++ drop head.len buf ≡ filled (copy_rule w (length buf)) buf
+  stored {b} fits q =
+      rw (parse-fits w (length buf) seen.value seen.is (omega (arith, seen.len, fits))) (λ j. (q ∙ seen.bytes) j ++ drop (seen.len j) buf)
 
-pub returns-then-room-len : goal.returns-then-room-len
-returns-then-room-len c =
-    let t = cramped c.args.wire.now c.args.buf.now c.in-Ok.head c.in-Ok.ensures c.if-room-len.true in
-    record { reply = t.0; bytes = t.1 }
+pub returns-then-room-len-clause-bytes : goal.returns-then-room-len-clause-bytes
+returns-then-room-len-clause-bytes c = cramped c.args.wire.now c.args.buf.now c.in-Ok.head c.in-Ok.ensures c.if-room-len.true
 
 pub slice_bounds-copy-count : goal.slice_bounds-copy-count
 slice_bounds-copy-count c = (seen c.args.wire.now c.args.buf.now c.in-Ok.head c.in-Ok.ensures).ordered
@@ -72,7 +68,6 @@ returns-in-Err c = record {
   bytes = sym (kept-as-it-was c.args.wire.now c.args.buf.now c.in-Err.e c.in-Err.ensures);
 }
 
-pub returns-else-room-len : goal.returns-else-room-len
-returns-else-room-len c =
-    let t = answered c.args.wire.now c.args.buf.now c.in-Ok.head c.in-Ok.ensures c.if-room-len.false c.copy.ensures in
-    record { reply = t.0; bytes = t.1 }
+pub returns-else-room-len-clause-bytes : goal.returns-else-room-len-clause-bytes
+returns-else-room-len-clause-bytes c =
+    stored c.args.wire.now c.args.buf.now c.in-Ok.head c.in-Ok.ensures c.if-room-len.false c.copy.ensures
