@@ -17,3 +17,9 @@ loop-turns-preserved c =
     let l = c.loop-turns in
     let r = c.take_all-counted in
     (goes_further (between l.splitter l.hold) _ r.result r.new.hold r.ensures l.invariant.0, omega arith, omega arith)
+
+pub returns-then-not-is_taken : goal.returns-then-not-is_taken
+returns-then-not-is_taken c =
+    let l = c.loop-turns in
+    let r = c.take_all-counted in
+    goes_further (between l.splitter l.hold) _ r.result r.new.hold r.ensures l.invariant.0
