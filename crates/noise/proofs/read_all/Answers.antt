@@ -1,6 +1,6 @@
 -- One piece more: what was reached before the call is reached behind it.
 -- A piece that is refused alters nothing.
-use Rattle.std.proofs.Common.{◌≡◌, refl, sym, subst, arith}
+use Rattle.std.proofs.Common.{refl, sym, subst, arith}
 use Rattle.splitter.specs.declared.FrameSplitter.{FrameSplitter}
 use Rattle.line_noise.specs.Piece.{between}
 use Rattle.line_noise.specs.Program.{Reached}
