@@ -1,5 +1,5 @@
 // Whether a shot failed, for C: each call decodes a payload and asks its record, 1 for yes.
-// An archive of their own: beside the decoder's own call a second one keeps the compiler from inlining it, and D4 is slower.
+// A crate of their own: the decoders' own calls for C are in abi_flight.
 #![tactic(auto)]
 
 ghost use Rattle.error.specs.Refusal.{and_then};

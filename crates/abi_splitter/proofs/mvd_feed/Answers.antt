@@ -44,13 +44,13 @@ unfolding fed_of places
 returns-in-More-clause-reply c =
     let a = c.args in
     rw c.words_of.ensures (passed (left a.splitter.now a.hold.now a.chunk.now c.feed-r.new.hold c.feed-r.result
-    c.if-splitter-lt2.true c.state_of-state.ensures c.feed-r.ensures c.in-More.is) _ _)
+    (omega arith) c.state_of-state.ensures c.feed-r.ensures c.in-More.is) _ _)
 
 pub returns-in-More-clause-bytes : goal.returns-in-More-clause-bytes
 returns-in-More-clause-bytes c =
     let a = c.args in
     held a.splitter.now a.hold.now a.chunk.now c.feed-r.new.hold c.feed-r.result
-    c.if-splitter-lt2.true c.state_of-state.ensures c.feed-r.ensures
+    (omega arith) c.state_of-state.ensures c.feed-r.ensures
 
 pub returns-in-Frame-clause-reply : goal.returns-in-Frame-clause-reply
 unfolding fed_of places
@@ -58,13 +58,13 @@ returns-in-Frame-clause-reply c =
     let a = c.args in
     rw (c.words_of-in-Frame.ensures, c.flag.ensures)
     (passed (left a.splitter.now a.hold.now a.chunk.now c.feed-r.new.hold c.feed-r.result
-    c.if-splitter-lt2.true c.state_of-state.ensures c.feed-r.ensures c.in-Frame.is) _ _)
+    (omega arith) c.state_of-state.ensures c.feed-r.ensures c.in-Frame.is) _ _)
 
 pub returns-in-Frame-clause-bytes : goal.returns-in-Frame-clause-bytes
 returns-in-Frame-clause-bytes c =
     let a = c.args in
     held a.splitter.now a.hold.now a.chunk.now c.feed-r.new.hold c.feed-r.result
-    c.if-splitter-lt2.true c.state_of-state.ensures c.feed-r.ensures
+    (omega arith) c.state_of-state.ensures c.feed-r.ensures
 
 pub returns-in-Overlong-clause-reply : goal.returns-in-Overlong-clause-reply
 unfolding fed_of places
@@ -72,33 +72,33 @@ returns-in-Overlong-clause-reply c =
     let a = c.args in
     rw c.words_of-in-Overlong.ensures
     (passed (left a.splitter.now a.hold.now a.chunk.now c.feed-r.new.hold c.feed-r.result
-    c.if-splitter-lt2.true c.state_of-state.ensures c.feed-r.ensures c.in-Overlong.is) _ _)
+    (omega arith) c.state_of-state.ensures c.feed-r.ensures c.in-Overlong.is) _ _)
 
 pub returns-in-Overlong-clause-bytes : goal.returns-in-Overlong-clause-bytes
 returns-in-Overlong-clause-bytes c =
     let a = c.args in
     held a.splitter.now a.hold.now a.chunk.now c.feed-r.new.hold c.feed-r.result
-    c.if-splitter-lt2.true c.state_of-state.ensures c.feed-r.ensures
+    (omega arith) c.state_of-state.ensures c.feed-r.ensures
 
 pub returns-in-Err-clause-reply : goal.returns-in-Err-clause-reply
 unfolding places
 returns-in-Err-clause-reply c =
     let a = c.args in
     refuses c.in-Err.e (left a.splitter.now a.hold.now a.chunk.now c.feed-r.new.hold c.feed-r.result
-    c.if-splitter-lt2.true c.state_of-state.ensures c.feed-r.ensures c.in-Err.is) _ _ c.tell.ensures
+    (omega arith) c.state_of-state.ensures c.feed-r.ensures c.in-Err.is) _ _ c.tell.ensures
 
 pub returns-in-Err-clause-bytes : goal.returns-in-Err-clause-bytes
 returns-in-Err-clause-bytes c =
     let a = c.args in
     held a.splitter.now a.hold.now a.chunk.now c.feed-r.new.hold c.feed-r.result
-    c.if-splitter-lt2.true c.state_of-state.ensures c.feed-r.ensures
+    (omega arith) c.state_of-state.ensures c.feed-r.ensures
 
 pub returns-clause-reply : goal.returns-clause-reply
 returns-clause-reply c =
     let a = c.args in
-    refuses BadState (ap left_by (stays a.splitter.now a.hold.now a.chunk.now c.if-splitter-lt2.false)) _ _ c.tell-2.ensures
+    refuses BadState (ap left_by (stays a.splitter.now a.hold.now a.chunk.now (omega arith))) _ _ c.tell-2.ensures
 
 pub returns-clause-bytes : goal.returns-clause-bytes
 returns-clause-bytes c =
     let a = c.args in
-    ap (λ (g : Given). g.hold) (stays a.splitter.now a.hold.now a.chunk.now c.if-splitter-lt2.false)
+    ap (λ (g : Given). g.hold) (stays a.splitter.now a.hold.now a.chunk.now (omega arith))
