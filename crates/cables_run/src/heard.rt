@@ -46,7 +46,7 @@ pub(crate) fn end(rt: &HostRuntime, splitter: FrameSplitter, hold: &[u8]) -> boo
 
 fn number(rt: &HostRuntime, n: u64) -> bool {
     let mut digits = [0u8; 20];
-    let k = program::decimal(n, &mut digits);
+    let k = io::decimal(n, &mut digits);
     print(rt, b" ") && print(rt, &digits[..k])
 }
 
@@ -66,7 +66,7 @@ fn line(rt: &HostRuntime, name: &[u8], bytes: &[u8]) -> bool {
 
 fn byte(rt: &HostRuntime, n: u8) -> bool {
     let mut digits = [0u8; 16];
-    let k = program::hex(n as u64, 2, &mut digits);
+    let k = io::hex(n as u64, 2, &mut digits);
     print(rt, b" ") && print(rt, &digits[..k])
 }
 

@@ -5,7 +5,7 @@
 mod cable;
 mod heard;
 
-ghost use Rattle.program.specs.Counts.{IsPrefixLen};
+ghost use Rattle.io.specs.Counts.{IsPrefixLen};
 
 use crate::cable::hear;
 
@@ -15,7 +15,7 @@ fn main(rt: HostRuntime) {
         program::word_count(&rt),
         b"usage: ./run cables_run < CAPTURE\n",
     ) {
-        let mut room = program::large_buffer();
+        let mut room = io::large_buffer();
         let read = read_all(&rt, &mut room);
         if read.is_whole {
             both(&rt, &room[..read.len]);
@@ -53,7 +53,7 @@ fn read_all(rt: &HostRuntime, room: &mut [u8]) -> Read
     let mut is_whole = false;
     while len < room.len() {
         let got = program::read(rt, b"cables_run", &mut room[len..]);
-        let n = program::count(got, &room[len..]);
+        let n = io::count(got, &room[len..]);
         if n == 0 {
             is_whole = got == 0;
             break;

@@ -57,7 +57,7 @@ fn read_all(rt: &HostRuntime, hold: &mut [u8], piece: &mut [u8], lines: &mut [u8
             is_whole = got == 0;
             break;
         }
-        let n = program::count(got, piece);
+        let n = io::count(got, piece);
         let ran = session.piece(hold, &piece[..n], lines);
         session = ran.session;
         let reply = ran.reply;

@@ -16,9 +16,9 @@ fn main(rt: HostRuntime) {
         program::word_count(&rt),
         b"usage: ./run cases < LIST\n",
     ) {
-        let mut piece = program::large_buffer();
+        let mut piece = io::large_buffer();
         let mut line = case::line_buffer();
-        let mut out = program::large_buffer();
+        let mut out = io::large_buffer();
         replay(&rt, &mut piece, &mut line, &mut out);
     }
 }
@@ -47,7 +47,7 @@ fn replay(rt: &HostRuntime, piece: &mut [u8], line: &mut [u8], out: &mut [u8]) {
             }
             break;
         }
-        let n = program::count(got, piece);
+        let n = io::count(got, piece);
         at = lines(rt, at, &piece[..n], line, out);
         if !at.is_sound {
             break;
@@ -160,7 +160,7 @@ fn answered(rt: &HostRuntime, number: u64, hex: &[u8], out: &mut [u8]) -> bool {
 // The operation and the two numbers are the case's head; its bytes are lent to what writes, and read by all else.
 fn answer(hex: &[u8], out: &mut [u8]) -> usize {
     let mut head = [0u8; 17];
-    let mut room = program::buffer();
+    let mut room = io::buffer();
     case::unhex(hex, 0, &mut head);
     let n = case::unhex(hex, 34, &mut room);
     let k = within(n, &room);

@@ -92,7 +92,7 @@ pub(crate) fn signed(n: i32, out: &mut [u8], at: usize) -> usize {
 
 pub(crate) fn float(x: f64, out: &mut [u8], at: usize) -> usize {
     let mut digits = [0u8; 16];
-    let k = program::hex(float40_write::bits_of(x), 16, &mut digits);
+    let k = io::hex(float40_write::bits_of(x), 16, &mut digits);
     let at = text(b" ", out, at);
     text(&digits[..k], out, at)
 }
@@ -155,7 +155,7 @@ pub(crate) fn end(out: &mut [u8], at: usize) -> usize {
 
 pub(crate) fn decimal(n: u64, out: &mut [u8], at: usize) -> usize {
     let mut digits = [0u8; 20];
-    let k = program::decimal(n, &mut digits);
+    let k = io::decimal(n, &mut digits);
     text(&digits[..k], out, at)
 }
 
@@ -176,6 +176,6 @@ pub(crate) fn text(bytes: &[u8], out: &mut [u8], at: usize) -> usize {
 
 fn pair(byte: u8, out: &mut [u8], at: usize) -> usize {
     let mut digits = [0u8; 16];
-    let k = program::hex(byte as u64, 2, &mut digits);
+    let k = io::hex(byte as u64, 2, &mut digits);
     text(&digits[..k], out, at)
 }

@@ -54,7 +54,7 @@ fn show(rt: &HostRuntime, hold: &mut [u8], first: &[u8], second: &[u8]) -> bool 
     let after = piece(rt, session, hold, second);
     let session = after.session;
     let splitter = session.splitter;
-    let mut lines = program::buffer();
+    let mut lines = io::buffer();
     let reply = report::end_line(splitter.count, splitter.skipping, &mut lines);
     after.is_written && print(rt, reply, &lines)
 }
@@ -66,7 +66,7 @@ struct Shown {
 }
 
 fn piece(rt: &HostRuntime, session: Session, hold: &mut [u8], chunk: &[u8]) -> Shown {
-    let mut lines = program::large_buffer();
+    let mut lines = io::large_buffer();
     let ran = session.piece(hold, chunk, &mut lines);
     let reply = ran.reply;
     let session = ran.session;

@@ -51,7 +51,7 @@ fn read_all(rt: &HostRuntime, hold: &mut [u8], piece: &mut [u8]) -> Read
             is_whole = got == 0;
             break;
         }
-        let n = program::count(got, piece);
+        let n = io::count(got, piece);
         let counted = line_noise::take_all(splitter, hold, &piece[..n]);
         splitter = counted.splitter;
         let reply = counted.reply;

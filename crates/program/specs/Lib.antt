@@ -1,4 +1,3 @@
--- What the contracts of `program` cite: counts of bytes, and numbers as text.
--- Nothing here is assumed.
+-- What the contracts of `program` cite.
+-- One file: what a read answers.
 pub mod Counts
-pub mod Digits

@@ -2,12 +2,9 @@
 // A program has no exit status of its own: it writes to standard error only what went wrong, and what is told there is the program's status.
 #![tactic(auto)]
 
-ghost use Rattle.std.specs.Prelude.{◌≡◌, true, [], leb, length, replicate};
-ghost use Rattle.program.specs.Counts.{Moved, IsPrefixLen, clamp_len};
+ghost use Rattle.std.specs.Prelude.{◌≡◌, true, [], leb, length};
+ghost use Rattle.program.specs.Counts.{Moved};
 
-mod number;
-
-pub use number::{decimal, hex};
 use std::env::FillError;
 use std::io::{Error, Read};
 use std::rt::Env;
@@ -45,18 +42,6 @@ pub fn read(rt: &HostRuntime, name: &[u8], piece: &mut [u8]) -> isize
             -1
         }
     }
-}
-
-// What a read of a piece answered as a number of its bytes: 0 where it is negative, and never more than the piece has.
-pub fn count(got: isize, piece: &[u8]) -> usize
-    ensures in_bounds { IsPrefixLen result piece.now }
-    ensures value { result ≡ clamp_len got (length piece.now) }
-{
-    if got <= 0 {
-        return 0;
-    }
-    let n = got as usize;
-    if n < piece.len() { n } else { piece.len() }
 }
 
 // All of a text to standard output, or the failure is told; an empty text cannot fail.
@@ -99,20 +84,4 @@ pub fn tell(rt: &HostRuntime, text: &[u8])
     ensures { result ≡ tt }
 {
     let _ = rt.stderr().write_all(text);
-}
-
-// 4,096 zeros. The contract gives the length too, which lending them needs.
-pub fn buffer() -> [u8; 4096]
-    ensures size { 4096 ≡ length result }
-    ensures zeros { result ≡ replicate 4096 0 }
-{
-    [0; 4096]
-}
-
-// 65,536 zeros, for a loop that moves much. The contract gives the length too, which lending them needs.
-pub fn large_buffer() -> [u8; 65536]
-    ensures size { 65536 ≡ length result }
-    ensures zeros { result ≡ replicate 65536 0 }
-{
-    [0; 65536]
 }
