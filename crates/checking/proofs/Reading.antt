@@ -142,12 +142,12 @@ bytes-append [] b = refl
 bytes-append (u ∷ a) b = ap (λ (l : List ℕ). u.0 ∷ l) (bytes-append a b)
 
 -- what a rule answers, with the places and lengths that it is told
-head_of : (us : List (ℕ × ℕ)) (d s : Told BusAddr) (type n from to : ℕ) (p : List ℕ) → length p ≡ n → offset_at us 3 ≡ from → offset_at us (length us - 2) ≡ to
+head-parts : (us : List (ℕ × ℕ)) (d s : Told BusAddr) (type n from to : ℕ) (p : List ℕ) → length p ≡ n → offset_at us 3 ≡ from → offset_at us (length us - 2) ≡ to
     → on_yes (head_at us) (and_then d (λ dest. and_then s (λ src. yes (fields dest src type p))))
     ≡ and_then d (λ dest. and_then s (λ src. yes (head dest src type n (from + 1) (to + 1))))
-head_of us (yes d) (yes s) type n from to p e f g = λ i. yes (head d s type (e i) (f i + 1) (g i + 1))
-head_of us (yes d) (no k vs) type n from to p e f g = refl
-head_of us (no k vs) s type n from to p e f g = refl
+head-parts us (yes d) (yes s) type n from to p e f g = λ i. yes (head d s type (e i) (f i + 1) (g i + 1))
+head-parts us (yes d) (no k vs) type n from to p e f g = refl
+head-parts us (no k vs) s type n from to p e f g = refl
 
 -- the offset of a byte of the front, or of the first behind it
 next-offset : (u v : ℕ × ℕ) (r q ub : List (ℕ × ℕ)) (k : ℕ) → k ≤ length ub → u.1 ≡ v.1 → offset_at (ub ++ u ∷ r) k ≡ offset_at (ub ++ v ∷ q) k
@@ -204,7 +204,7 @@ module _ (ub : List (ℕ × ℕ)) (hi at lo o : ℕ) (three : 3 ≤ length ub) w
       (and_then (address_rule (byte_at ub 0)) (λ dest. and_then (address_rule (byte_at ub 1)) (λ src. yes (fields dest src (byte_at ub 2) (payload_of us)))))
       = λ i. on_yes (head_at us)
       (and_then (address_rule (d i).0) (λ dest. and_then (address_rule (s i).0) (λ src. yes (fields dest src (y i).0 (payload_of us))))) in
-      same ∙ head_of us (address_rule (byte_at ub 0)) (address_rule (byte_at ub 1)) (byte_at ub 2) n (offset_at (ub ++ (0, at) ∷ []) 3) at (payload_of us) p from to
+      same ∙ head-parts us (address_rule (byte_at ub 0)) (address_rule (byte_at ub 1)) (byte_at ub 2) n (offset_at (ub ++ (0, at) ∷ []) 3) at (payload_of us) p from to
 
 -- ---- an interior with its checksum found
 
