@@ -2,9 +2,10 @@
 -- check reads it off src/ (`Post`).
 use mathlib.Core.Path.{◌≡◌}
 use Rattle.general.proofs.One.{plain}
-use Rattle.abi.proofs.OnePassing.{one-done}
+use Rattle.abi.proofs.OnePassing.{one-done, one-passing}
 use Rattle.abi.proofs.tell.Reads as tell
 use Rattle.abi.proofs.unit.Reads as unit
+use Rattle.abi.proofs.put.Reads as put
 use Rattle.abi.proofs.flag.Reads as flag
 use Rattle.abi.proofs.wide.Reads as wide
 use Rattle.abi.proofs.byte.Reads as byte
@@ -23,3 +24,7 @@ one-wide κs a r s x y = plain
 
 pub one_byte : (κs a r s x y : _) → byte.Post κs a r x → byte.Post κs a s y → r ≡ s
 one_byte κs a r s x y = plain
+
+pub one-put : (t u v w d κs a r s x y : _) → put.Post t u v w d κs a r x → put.Post t u v w d κs a s y
+    → (r ≡ s) × (x.1.0.now ≡ y.1.0.now) × (x.1.1.0.now ≡ y.1.1.0.now)
+one-put t u v w d κs a r s x y = one-passing

@@ -4,10 +4,10 @@ use Prim.Native.Nat.{ℕ}
 use mathlib.Core.Path.{◌≡◌, refl, ap, subst, ◌∙◌}
 use mathlib.Core.List.{List}
 use Rattle.error.specs.declared.WireError.{WireError}
-use Rattle.error.specs.declared.ResultUnit.{ResultUnit}
-use Rattle.error.specs.declared.ResultUnit.TheVariants.{Ok, Err}
+use Rattle.std.specs.Prelude.{Result}
+use Rattle.std.specs.declared.result.Result.TheVariants.{Ok, Err}
 use Rattle.error.specs.Refusal.{Told, yes, number_of, values_of, refused}
-use Rattle.error.specs.Result.{told_unit}
+use Rattle.error.specs.Result.{told}
 use Rattle.abi.specs.Answer.{three, code_of, value_or, values_in, Passed, besides}
 
 module _ {A : Type 0} {t : Told A} where
@@ -26,17 +26,12 @@ module _ {A : Type 0} {t : Told A} where
       let is : Passed (refused e) old olds k old words = record { code = q.0; value = refl; values = q.1 } in
       subst (λ (u : Told A). Passed u old olds k old words) p is
 
--- what is told of one is told of its equal
-pub passed-as : {A : Type 0} {t u : Told A} → t ≡ u → {old : A} {olds : List ℕ} {k : ℕ} {v : A} {words : List ℕ}
-    → Passed t old olds k v words → Passed u old olds k v words
-passed-as {A} p {old} {olds} {k} {v} {words} q = subst (λ (w : Told A). Passed w old olds k v words) p q
-
 -- a record that stands beside its reply: what is besides of it fills the place, or a refusal leaves it
-module _ {R A : Type 0} (f : R → A) {w : Told Unit × R} {a : ResultUnit} {r : R} (reply : (told_unit a, r) ≡ w) (old : A) (olds : List ℕ) where
-  told_of : {b : ResultUnit} → b ≡ a → besides f (told_unit b, r) ≡ besides f w
-  told_of e = ap (λ (b : ResultUnit). besides f (told_unit b, r)) e ∙ ap (besides f) reply
+module _ {R A : Type 0} (f : R → A) {w : Told Unit × R} {a : Result Unit WireError} {r : R} (reply : (told a, r) ≡ w) (old : A) (olds : List ℕ) where
+  told_of : {b : Result Unit WireError} → b ≡ a → besides f (told b, r) ≡ besides f w
+  told_of e = ap (λ (b : Result Unit WireError). besides f (told b, r)) e ∙ ap (besides f) reply
 
-  pub shows : Ok ≡ a → {x : A} → x ≡ f r → Passed (besides f w) old olds 0 x olds
+  pub shows : Ok tt ≡ a → {x : A} → x ≡ f r → Passed (besides f w) old olds 0 x olds
   shows e p = passed (ap yes p ∙ told_of e) old olds
 
   pub hides : (e : WireError) → Err e ≡ a → {k : ℕ} {words : List ℕ} → (k ≡ number_of e) × (words ≡ three (values_of e))

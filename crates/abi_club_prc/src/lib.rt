@@ -13,15 +13,15 @@ ghost use Rattle.abi_club_prc.specs.Numbers.{club_whole, club_figures, club_numb
 
 use abi::{byte, tell, unit, wide};
 use club_prc::{ClubPrc, ClubPrcPoint};
-use error::ResultUnit;
+use layout::Decoded;
 
 pub fn mvd_club_prc(payload: &[u8]) -> usize
     ensures { result ≡ club_points payload.now }
 {
-    let r = ClubPrc::decode(payload);
-    r.points
+    ClubPrc::decode(payload).points
 }
 
+// Written out: the trait of listed records that `abi_flight` has would take more lines here than the call does.
 pub fn mvd_club_prc_point(
     payload: &[u8],
     index: usize,
@@ -33,16 +33,14 @@ pub fn mvd_club_prc_point(
         (point_answer (club_points payload.now) index))
         (whole.old, figures.old) values.old result (whole.new, figures.new) values.new }
 {
-    let r = ClubPrc::point(payload, index);
-    let result = r.result;
-    let point = r.record;
+    let Decoded { result, record } = ClubPrc::point(payload, index);
     match result {
-        ResultUnit::Ok => {
-            *whole = club_whole(point);
-            *figures = club_figures(point);
+        Ok(()) => {
+            *whole = club_whole(record);
+            *figures = club_figures(record);
             0
         }
-        ResultUnit::Err(e) => tell(e, values),
+        Err(e) => tell(e, values),
     }
 }
 
@@ -53,6 +51,7 @@ pub fn mvd_encode_request(start_index: u16, buf: &mut [u8], values: &mut [u64; 3
     unit(ClubPrc::encode_request(start_index, buf), values)
 }
 
+#[tactic(auto, using(abi::proofs::Widened::widened, layout::proofs::Held::held))]
 fn club_whole(p: ClubPrcPoint) -> [i32; 9]
     ensures { result ≡ club_whole p }
 {
@@ -69,12 +68,13 @@ fn club_whole(p: ClubPrcPoint) -> [i32; 9]
     ]
 }
 
+#[tactic(auto, using(layout::proofs::Spread::spread))]
 fn club_figures(p: ClubPrcPoint) -> [f64; 20]
     ensures { result ≡ club_figures p }
 {
-    let pk = p.pk;
+    let [a, b, c, d, e, f] = p.pk;
     [
         p.n, p.az, p.el, p.vel, p.vel2, p.dist, p.f30, p.f33, p.f45, p.az1, p.az2, p.az3, p.el1,
-        p.el2, pk[0], pk[1], pk[2], pk[3], pk[4], pk[5],
+        p.el2, a, b, c, d, e, f,
     ]
 }

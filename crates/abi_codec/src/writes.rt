@@ -1,5 +1,5 @@
 // The writers for C: a field's bytes at a place, or refusal 8.
-// A refusal keeps the buffer; a field that is written keeps the three words.
+// A refusal keeps the buffer; a field that is written keeps the three words. Each is a call of its own, as C names them.
 ghost use Rattle.std.specs.Prelude.{◌≡◌};
 ghost use Rattle.integer_write.specs.Writing.{bytes_of, int_bytes, writing, written};
 ghost use Rattle.float40_write.specs.Writing.{bytes40};

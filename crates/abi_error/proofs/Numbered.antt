@@ -66,10 +66,6 @@ entry-counts k =
           (λ z. by-lt k 14 (λ l. absurd (f (refusal k) (number k (omega arith) l))) (none-past k));
     }
 
--- where no refusal has the number
-pub past-counts : (k : ℕ) → 14 ≤ k → ValueCount k 0
-past-counts k h = rw (none-past k h) at (entry-counts k)
-
 -- a number is a refusal's, or no refusal's
 either : {P : Type 0} (k : ℕ) → ((e : WireError) → number_of e ≡ k → P) → (((e : WireError) → number_of e ≡ k → ⊥) → P) → P
 either k y n =

@@ -10,9 +10,5 @@ const COUNTS: [usize; 14] = [0, 1, 1, 0, 2, 2, 1, 3, 2, 0, 1, 1, 1, 0];
 pub fn mvd_value_count(refusal: u64) -> usize
     ensures { ValueCount refusal result }
 {
-    if refusal < 14 {
-        COUNTS[refusal as usize]
-    } else {
-        0
-    }
+    COUNTS.get(refusal as usize).copied().unwrap_or(0)
 }

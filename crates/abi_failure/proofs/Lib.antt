@@ -1,4 +1,3 @@
--- A rule by its number, and that no two replies are allowed.
--- All else that this crate proves is its contracts.
-pub mod Named
+-- No two replies are allowed.
+-- It is all that this crate proves beside its contracts.
 pub mod One

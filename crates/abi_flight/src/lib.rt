@@ -2,8 +2,8 @@
 // What it tells, and every lent place, is that decoder's rule; what stands where is specs/Records.
 #![tactic(auto)]
 
-ghost use Rattle.std.specs.Prelude.{◌≡◌, ◌+◌, ◌≤◌, length};
-ghost use Rattle.std.proofs.lemmas.List.Edits.{sets};
+ghost use Rattle.std.specs.Prelude.{◌≡◌};
+ghost use Rattle.layout.specs.Layout.{told_decoded};
 ghost use Rattle.flight.specs.Decoding.{decode_rule};
 ghost use Rattle.flight.specs.FlightResultFields.{flight_result};
 ghost use Rattle.flight.specs.FlightResultV1Fields.{flight_result_v1};
@@ -12,8 +12,8 @@ ghost use Rattle.abi.specs.Answer.{both, Passed, besides};
 ghost use Rattle.abi_flight.specs.Records.{flight_whole, flight_figures, flight_v1_whole, flight_v1_figures, club_whole, club_figures};
 
 use abi::tell;
-use error::ResultUnit;
 use flight::{ClubResult, FlightResult, FlightResultV1};
+use layout::Decoded;
 use numbers::Message;
 
 pub fn mvd_flight_result(
@@ -25,17 +25,7 @@ pub fn mvd_flight_result(
     ensures { Passed (besides (both flight_whole flight_figures) (decode_rule Message.FlightResult flight_result payload.now))
         (whole.old, figures.old) values.old result (whole.new, figures.new) values.new }
 {
-    let d = FlightResult::decode(payload);
-    let result = d.result;
-    let r = d.record;
-    match result {
-        ResultUnit::Ok => {
-            *whole = flight_whole(r);
-            *figures = flight_figures(r);
-            0
-        }
-        ResultUnit::Err(e) => tell(e, values),
-    }
+    list(FlightResult::decode(payload), whole, figures, values)
 }
 
 pub fn mvd_flight_result_v1(
@@ -47,17 +37,7 @@ pub fn mvd_flight_result_v1(
     ensures { Passed (besides (both flight_v1_whole flight_v1_figures) (decode_rule Message.FlightResultV1 flight_result_v1 payload.now))
         (whole.old, figures.old) values.old result (whole.new, figures.new) values.new }
 {
-    let d = FlightResultV1::decode(payload);
-    let result = d.result;
-    let r = d.record;
-    match result {
-        ResultUnit::Ok => {
-            *whole = flight_v1_whole(r);
-            *figures = flight_v1_figures(r);
-            0
-        }
-        ResultUnit::Err(e) => tell(e, values),
-    }
+    list(FlightResultV1::decode(payload), whole, figures, values)
 }
 
 pub fn mvd_club_result(
@@ -69,214 +49,217 @@ pub fn mvd_club_result(
     ensures { Passed (besides (both club_whole club_figures) (decode_rule Message.ClubResult club_result payload.now))
         (whole.old, figures.old) values.old result (whole.new, figures.new) values.new }
 {
-    let d = ClubResult::decode(payload);
-    let result = d.result;
-    let r = d.record;
-    match result {
-        ResultUnit::Ok => {
-            *whole = club_whole(r);
-            *figures = club_figures(r);
+    list(ClubResult::decode(payload), whole, figures, values)
+}
+
+// A record that is listed for C: its whole numbers, and then its figures.
+trait Listed {
+    type Whole: Copy;
+
+    type Figures: Copy;
+
+    ghost whole_of: { Self → Self.Whole };
+
+    ghost figures_of: { Self → Self.Figures };
+
+    fn whole(self) -> Self::Whole
+        ensures { result ≡ whole_of self };
+
+    fn figures(self) -> Self::Figures
+        ensures { result ≡ figures_of self };
+}
+
+// What a decoder tells, and its record's numbers in their places.
+fn list<R: Listed + Copy>(
+    d: Decoded<R>,
+    whole: &mut R::Whole,
+    figures: &mut R::Figures,
+    values: &mut [u64; 3],
+) -> u64
+    ensures { Passed (besides (both R.whole_of R.figures_of) (told_decoded d)) (whole.old, figures.old) values.old
+        result (whole.new, figures.new) values.new }
+{
+    match d.result {
+        Ok(()) => {
+            *whole = d.record.whole();
+            *figures = d.record.figures();
             0
         }
-        ResultUnit::Err(e) => tell(e, values),
+        Err(e) => tell(e, values),
     }
 }
 
-// The numbers of each record in its order, whole numbers and then floats: one call for each list.
-fn flight_whole(r: FlightResult) -> [i32; 8]
-    ensures { result ≡ flight_whole r }
-{
-    let s = r.landing_spin_rpm;
-    [
-        r.total,
-        r.backspin_rpm,
-        r.sidespin_rpm,
-        r.riflespin_rpm,
-        s[0],
-        s[1],
-        s[2],
-        r.poly_scale,
-    ]
+impl Listed for FlightResult {
+    type Whole = [i32; 8];
+
+    type Figures = [f64; 44];
+
+    ghost whole_of = { flight_whole };
+
+    ghost figures_of = { flight_figures };
+
+    fn whole(self) -> [i32; 8] {
+        let s = self.landing_spin_rpm;
+        [
+            self.total,
+            self.backspin_rpm,
+            self.sidespin_rpm,
+            self.riflespin_rpm,
+            s[0],
+            s[1],
+            s[2],
+            self.poly_scale,
+        ]
+    }
+
+    fn figures(self) -> [f64; 44] {
+        let s = self.start_position;
+        let l = self.landing_position;
+        let v = self.landing_velocity;
+        let f = self.final_position;
+        let x = self.poly_x;
+        let y = self.poly_y;
+        let z = self.poly_z;
+        [
+            self.track_time,
+            s[0],
+            s[1],
+            s[2],
+            self.launch_speed,
+            self.launch_azimuth,
+            self.launch_elevation,
+            self.carry_distance,
+            self.flight_time,
+            self.max_height,
+            l[0],
+            l[1],
+            l[2],
+            v[0],
+            v[1],
+            v[2],
+            self.total_distance,
+            self.roll_distance,
+            f[0],
+            f[1],
+            f[2],
+            self.clubhead_speed,
+            self.club_strike_direction,
+            self.club_attack_angle,
+            self.clubhead_speed_post,
+            self.club_swing_plane_tilt,
+            self.club_swing_plane_rotation,
+            self.club_effective_loft,
+            self.club_face_angle,
+            x[0],
+            x[1],
+            x[2],
+            x[3],
+            x[4],
+            y[0],
+            y[1],
+            y[2],
+            y[3],
+            y[4],
+            z[0],
+            z[1],
+            z[2],
+            z[3],
+            z[4],
+        ]
+    }
 }
 
-fn flight_figures(r: FlightResult) -> [f64; 44]
-    ensures { result ≡ flight_figures r }
-{
-    let s = r.start_position;
-    let l = r.landing_position;
-    let v = r.landing_velocity;
-    let f = r.final_position;
-    let x = r.poly_x;
-    let y = r.poly_y;
-    let z = r.poly_z;
-    [
-        r.track_time,
-        s[0],
-        s[1],
-        s[2],
-        r.launch_speed,
-        r.launch_azimuth,
-        r.launch_elevation,
-        r.carry_distance,
-        r.flight_time,
-        r.max_height,
-        l[0],
-        l[1],
-        l[2],
-        v[0],
-        v[1],
-        v[2],
-        r.total_distance,
-        r.roll_distance,
-        f[0],
-        f[1],
-        f[2],
-        r.clubhead_speed,
-        r.club_strike_direction,
-        r.club_attack_angle,
-        r.clubhead_speed_post,
-        r.club_swing_plane_tilt,
-        r.club_swing_plane_rotation,
-        r.club_effective_loft,
-        r.club_face_angle,
-        x[0],
-        x[1],
-        x[2],
-        x[3],
-        x[4],
-        y[0],
-        y[1],
-        y[2],
-        y[3],
-        y[4],
-        z[0],
-        z[1],
-        z[2],
-        z[3],
-        z[4],
-    ]
+impl Listed for FlightResultV1 {
+    type Whole = [i32; 4];
+
+    type Figures = [f64; 27];
+
+    ghost whole_of = { flight_v1_whole };
+
+    ghost figures_of = { flight_v1_figures };
+
+    fn whole(self) -> [i32; 4] {
+        [
+            self.total,
+            self.backspin_rpm,
+            self.sidespin_rpm,
+            self.poly_scale,
+        ]
+    }
+
+    fn figures(self) -> [f64; 27] {
+        let x = self.poly_x;
+        let y = self.poly_y;
+        let z = self.poly_z;
+        [
+            self.club_velocity,
+            self.ball_velocity,
+            self.flight_time,
+            self.distance,
+            self.height,
+            self.lateral,
+            self.elevation,
+            self.azimuth,
+            self.tracked_time,
+            self.drag,
+            self.acceleration,
+            self.club_strike_direction,
+            x[0],
+            x[1],
+            x[2],
+            x[3],
+            x[4],
+            y[0],
+            y[1],
+            y[2],
+            y[3],
+            y[4],
+            z[0],
+            z[1],
+            z[2],
+            z[3],
+            z[4],
+        ]
+    }
 }
 
-fn flight_v1_whole(r: FlightResultV1) -> [i32; 4]
-    ensures { result ≡ flight_v1_whole r }
-{
-    [r.total, r.backspin_rpm, r.sidespin_rpm, r.poly_scale]
-}
+impl Listed for ClubResult {
+    type Whole = [i32; 3];
 
-fn flight_v1_figures(r: FlightResultV1) -> [f64; 27]
-    ensures { result ≡ flight_v1_figures r }
-{
-    let x = r.poly_x;
-    let y = r.poly_y;
-    let z = r.poly_z;
-    [
-        r.club_velocity,
-        r.ball_velocity,
-        r.flight_time,
-        r.distance,
-        r.height,
-        r.lateral,
-        r.elevation,
-        r.azimuth,
-        r.tracked_time,
-        r.drag,
-        r.acceleration,
-        r.club_strike_direction,
-        x[0],
-        x[1],
-        x[2],
-        x[3],
-        x[4],
-        y[0],
-        y[1],
-        y[2],
-        y[3],
-        y[4],
-        z[0],
-        z[1],
-        z[2],
-        z[3],
-        z[4],
-    ]
-}
+    type Figures = [f64; 53];
 
-fn club_whole(r: ClubResult) -> [i32; 3]
-    ensures { result ≡ club_whole r }
-{
-    [r.num_club_prc_points as i32, r.flags, r.poly_scale]
-}
+    ghost whole_of = { club_whole };
 
-fn club_figures(r: ClubResult) -> [f64; 53]
-    ensures { result ≡ club_figures r }
-{
-    let c = r.poly_coeffs;
-    let mut figures = [
-        r.pre_club_speed,
-        r.post_club_speed,
-        r.strike_direction,
-        r.attack_angle,
-        r.face_angle,
-        r.dynamic_loft,
-        r.smash_factor,
-        r.dispersion_correction,
-        r.swing_plane_horizontal,
-        r.swing_plane_vertical,
-        r.club_azimuth,
-        r.club_elevation,
-        r.club_offset,
-        r.club_height,
-        0.0,
-        0.0,
-        0.0,
-        0.0,
-        0.0,
-        0.0,
-        0.0,
-        0.0,
-        0.0,
-        0.0,
-        0.0,
-        0.0,
-        0.0,
-        0.0,
-        0.0,
-        0.0,
-        0.0,
-        0.0,
-        0.0,
-        0.0,
-        0.0,
-        0.0,
-        0.0,
-        0.0,
-        0.0,
-        0.0,
-        0.0,
-        0.0,
-        0.0,
-        0.0,
-        0.0,
-        0.0,
-        0.0,
-        0.0,
-        0.0,
-        0.0,
-        r.pre_impact_time,
-        r.post_impact_time,
-        r.club_to_ball_time,
-    ];
-    lay(&c[..], 14, &mut figures[..]);
-    figures
-}
+    ghost figures_of = { club_figures };
 
-// A row of numbers into a list, from a place on.
-fn lay(xs: &[f64], at: usize, out: &mut [f64])
-    requires { at + length xs.now ≤ length out.old }
-    ensures { out.new ≡ sets out.old at xs.now }
-{
-    let mut i = 0;
-    while i < xs.len() {
-        out[at + i] = xs[i];
-        i += 1;
+    fn whole(self) -> [i32; 3] {
+        [self.num_club_prc_points as i32, self.flags, self.poly_scale]
+    }
+
+    fn figures(self) -> [f64; 53] {
+        let mut figures = [0.0; 53];
+        figures[..14].copy_from_slice(&[
+            self.pre_club_speed,
+            self.post_club_speed,
+            self.strike_direction,
+            self.attack_angle,
+            self.face_angle,
+            self.dynamic_loft,
+            self.smash_factor,
+            self.dispersion_correction,
+            self.swing_plane_horizontal,
+            self.swing_plane_vertical,
+            self.club_azimuth,
+            self.club_elevation,
+            self.club_offset,
+            self.club_height,
+        ]);
+        figures[14..50].copy_from_slice(&self.poly_coeffs);
+        figures[50..].copy_from_slice(&[
+            self.pre_impact_time,
+            self.post_impact_time,
+            self.club_to_ball_time,
+        ]);
+        figures
     }
 }

@@ -1,4 +1,3 @@
--- The laws of a field asked for by C.
--- And that no two replies are allowed.
-pub mod Message
+-- No two replies are allowed.
+-- It is all that this crate proves beside its contracts.
 pub mod One

@@ -9,6 +9,7 @@ use abi::tell;
 use error::WireError;
 use numbers::{Field, Message};
 
+#[tactic(auto, unfolding(crate::specs::Question::asked_of))]
 pub fn mvd_field(
     message: u8,
     payload: &[u8],
@@ -22,18 +23,10 @@ pub fn mvd_field(
         (count.old, figure.old, is_figure.old) values.old
         result (count.new, figure.new, is_figure.new) values.new }
 {
-    let asked = match message {
-        0xD4 => Message::FlightResult,
-        0xE8 => Message::FlightResultV1,
-        0xED => Message::ClubResult,
-        _ => return tell(
-            WireError::NoField {
-                number: message as usize,
-            },
-            values,
-        ),
-    };
-    field(asked, payload, number, count, figure, is_figure, values)
+    match Message::try_from(message) {
+        Ok(asked) => field(asked, payload, number, count, figure, is_figure, values),
+        Err(e) => tell(e, values),
+    }
 }
 
 // The field of a message by its number, in the place of its kind.

@@ -10,8 +10,8 @@ ghost use Rattle.abi.specs.Answer.{Passed};
 ghost use Rattle.abi_prc.specs.Numbers.{data_numbers, prc_whole, prc_figures, prc_numbers};
 
 use abi::{byte, tell, wide};
-use error::ResultUnit;
-use prc::{PrcData, PrcPoint, ResultPrcData};
+use layout::Decoded;
+use prc::{PrcData, PrcPoint};
 
 pub fn mvd_prc_data(
     payload: &[u8],
@@ -23,16 +23,16 @@ pub fn mvd_prc_data(
         (sequence.old, points.old) values.old result (sequence.new, points.new) values.new }
 {
     match PrcData::decode(payload) {
-        ResultPrcData::Ok(d) => {
-            let n = d.sequence;
-            *sequence = n;
+        Ok(d) => {
+            *sequence = d.sequence;
             *points = d.points;
             0
         }
-        ResultPrcData::Err(e) => tell(e, values),
+        Err(e) => tell(e, values),
     }
 }
 
+// Written out: the trait of listed records that `abi_flight` has would take more lines here than the call does.
 pub fn mvd_prc_point(
     payload: &[u8],
     index: usize,
@@ -44,19 +44,18 @@ pub fn mvd_prc_point(
         (prc_told (point_answer (prc_points payload.now) index) payload.now))
         (whole.old, figures.old) values.old result (whole.new, figures.new) values.new }
 {
-    let r = PrcData::point(payload, index);
-    let result = r.result;
-    let point = r.record;
+    let Decoded { result, record } = PrcData::point(payload, index);
     match result {
-        ResultUnit::Ok => {
-            *whole = prc_whole(point);
-            *figures = prc_figures(point);
+        Ok(()) => {
+            *whole = prc_whole(record);
+            *figures = prc_figures(record);
             0
         }
-        ResultUnit::Err(e) => tell(e, values),
+        Err(e) => tell(e, values),
     }
 }
 
+#[tactic(auto, using(abi::proofs::Widened::widened, layout::proofs::Held::held))]
 fn prc_whole(p: PrcPoint) -> [i32; 8]
     ensures { result ≡ prc_whole p }
 {
@@ -75,9 +74,8 @@ fn prc_whole(p: PrcPoint) -> [i32; 8]
 fn prc_figures(p: PrcPoint) -> [f64; 16]
     ensures { result ≡ prc_figures p }
 {
-    let pk = p.pk;
+    let [a, b, c, d, e, f] = p.pk;
     [
-        p.n, p.az, p.el, p.vel, p.dist, p.az1, p.az2, p.az3, p.el1, p.el2, pk[0], pk[1], pk[2],
-        pk[3], pk[4], pk[5],
+        p.n, p.az, p.el, p.vel, p.dist, p.az1, p.az2, p.az3, p.el1, p.el2, a, b, c, d, e, f,
     ]
 }

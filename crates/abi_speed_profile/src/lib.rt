@@ -9,7 +9,7 @@ ghost use Rattle.abi.specs.Answer.{Passed};
 ghost use Rattle.abi_speed_profile.specs.Numbers.{profile_whole, profile_numbers};
 
 use abi::{byte, tell};
-use speed_profile::{ResultSpeedProfile, SpeedProfile};
+use speed_profile::SpeedProfile;
 
 pub fn mvd_speed_profile(
     payload: &[u8],
@@ -25,13 +25,13 @@ pub fn mvd_speed_profile(
     ensures speeds_after { speeds.new ≡ speeds_after payload.now speeds.old }
 {
     match SpeedProfile::decode(payload, speeds) {
-        ResultSpeedProfile::Ok(r) => {
+        Ok(r) => {
             *whole = profile_whole(r);
             *samples = r.speeds;
             *time_interval = r.time_interval;
             0
         }
-        ResultSpeedProfile::Err(e) => tell(e, values),
+        Err(e) => tell(e, values),
     }
 }
 

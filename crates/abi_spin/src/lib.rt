@@ -11,9 +11,10 @@ ghost use Rattle.abi.specs.Answer.{Passed};
 ghost use Rattle.abi_spin.specs.Numbers.{elements_whole, spin_rest, spin_whole, spin_figures, spin_numbers};
 
 use abi::{byte, tell, wide};
-use error::ResultUnit;
+use layout::Decoded;
 use spin::{AntennaElement, SpinResult};
 
+// Written out: the trait of listed records that `abi_flight` has would take more lines here than the call does.
 pub fn mvd_spin_result(
     payload: &[u8],
     whole: &mut [i32; 46],
@@ -23,40 +24,35 @@ pub fn mvd_spin_result(
     ensures { Passed (on_yes (λ _. spin_numbers (spin_of (source_of 138 payload.now))) (answered 0xEF 138 payload.now))
         (whole.old, figures.old) values.old result (whole.new, figures.new) values.new }
 {
-    let r = SpinResult::decode(payload);
-    let result = r.result;
-    let spin = r.record;
+    let Decoded { result, record } = SpinResult::decode(payload);
     match result {
-        ResultUnit::Ok => {
-            *whole = spin_whole(spin);
-            *figures = spin_figures(spin);
+        Ok(()) => {
+            *whole = spin_whole(record);
+            *figures = spin_figures(record);
             0
         }
-        ResultUnit::Err(e) => tell(e, values),
+        Err(e) => tell(e, values),
     }
 }
 
 fn spin_whole(r: SpinResult) -> [i32; 46]
     ensures { result ≡ spin_whole r }
 {
-    let a = r.antenna_data;
-    let rest = spin_rest(r);
     let mut whole = [0; 46];
     whole[0] = byte(r.version);
-    put(a, rest, &mut whole);
+    put(r.antenna_data, spin_rest(r), &mut whole);
     whole
 }
 
-// Spin and signal-to-noise of each antenna element, from place 1 on; then the rest, from place 31 on.
+// Spin and signal-to-noise of each antenna element, from place 1 on; then the rest, from place 31 on. One loop by index over both: two
+// numbers of an element go to one place and the next, and as many follow the elements as there are.
 fn put(a: [AntennaElement; 15], rest: [i32; 15], whole: &mut [i32; 46])
     ensures { whole.new ≡ sets (sets whole.old 1 (elements_whole a)) 31 rest }
 {
-    let mut i = 0;
-    while i < 15 {
+    for i in 0..15 {
         whole[1 + i * 2] = rpm(a[i]);
         whole[2 + i * 2] = snr(a[i]);
         whole[31 + i] = rest[i];
-        i += 1;
     }
 }
 
@@ -87,12 +83,9 @@ fn spin_rest(r: SpinResult) -> [i32; 15]
 fn spin_figures(r: SpinResult) -> [f64; 16]
     ensures { result ≡ spin_figures r }
 {
-    let a = r.antenna_data;
     let mut figures = [r.spin_axis; 16];
-    let mut i = 0;
-    while i < 15 {
-        figures[i] = a[i].peak;
-        i += 1;
+    for (i, e) in r.antenna_data.iter().enumerate() {
+        figures[i] = e.peak;
     }
     figures
 }

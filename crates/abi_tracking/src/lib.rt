@@ -35,6 +35,7 @@ pub fn mvd_tracking_status(
     0
 }
 
+#[tactic(auto, using(layout::proofs::Held::held), unfolding(tracking::specs::Table::tracking_of))]
 fn tracking_whole(d: &[u8]) -> [i32; 4]
     ensures { result ≡ tracking_whole (tracking_of (fields_of d.now)) }
 {

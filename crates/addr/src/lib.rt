@@ -3,7 +3,8 @@
 #![tactic(auto)]
 
 ghost use Rattle.std.specs.Prelude.{◌≡◌};
-ghost use Rattle.addr.specs.Address.{byte_of, told_bus_addr, address_rule};
+ghost use Rattle.error.specs.Result.{told};
+ghost use Rattle.addr.specs.Address.{byte_of, address_rule};
 
 use error::WireError;
 
@@ -19,23 +20,17 @@ pub enum BusAddr {
     Dsp,
 }
 
-#[derive(Drop)]
-pub enum ResultBusAddr {
-    Ok(BusAddr),
-    Err(WireError),
-}
-
 impl BusAddr {
     #[tactic(auto, unfolding(crate::specs::Address::address_rule))]
-    pub fn from_byte(b: u8) -> ResultBusAddr
-        ensures { told_bus_addr result ≡ address_rule b }
+    pub fn from_byte(b: u8) -> Result<BusAddr, WireError>
+        ensures { told result ≡ address_rule b }
     {
         match b {
-            0x10 => ResultBusAddr::Ok(BusAddr::App),
-            0x12 => ResultBusAddr::Ok(BusAddr::Pi),
-            0x30 => ResultBusAddr::Ok(BusAddr::Avr),
-            0x40 => ResultBusAddr::Ok(BusAddr::Dsp),
-            _ => ResultBusAddr::Err(WireError::UnknownBusAddr { addr: b }),
+            0x10 => Ok(BusAddr::App),
+            0x12 => Ok(BusAddr::Pi),
+            0x30 => Ok(BusAddr::Avr),
+            0x40 => Ok(BusAddr::Dsp),
+            _ => Err(WireError::UnknownBusAddr { addr: b }),
         }
     }
 
@@ -48,5 +43,24 @@ impl BusAddr {
             BusAddr::Avr => 0x30,
             BusAddr::Dsp => 0x40,
         }
+    }
+}
+
+// The two ways by their names in std, so that a caller may write `?` and `into`.
+impl TryFrom<u8> for BusAddr {
+    type Error = WireError;
+
+    ghost try_from_gives = { λ b r. told r ≡ address_rule b };
+
+    fn try_from(b: u8) -> Result<BusAddr, WireError> {
+        BusAddr::from_byte(b)
+    }
+}
+
+impl From<BusAddr> for u8 {
+    ghost from_gives = { λ a b. b ≡ byte_of a };
+
+    fn from(a: BusAddr) -> u8 {
+        a.as_byte()
     }
 }

@@ -6,7 +6,9 @@ use mathlib.Core.List.{List, [], ◌∷◌, ◌++◌, flatten}
 use native.Mathlib.Omega.{arith}
 use lib.ListN.{length, set, length-append}
 use lib.Seq.{sets}
-use Rattle.integer_write.specs.Writing.{written}
+use Rattle.error.specs.declared.WireError.{WireError}
+use Rattle.error.specs.Refusal.{refused}
+use Rattle.integer_write.specs.Writing.{writing, written}
 use Rattle.integer_write.proofs.Cases.{writes}
 use Rattle.integer_write.proofs.Back.{length-written}
 
@@ -34,3 +36,12 @@ laid-is (f ∷ fs) s at h =
 pub field : (f : List ℕ) (fs : List (List ℕ)) (at : ℕ) (b : List ℕ) {c : List ℕ} → c ≡ written f b at → laid fs c (at + length f) ≡ laid (f ∷ fs) b at
 unfolding laid
 field f fs at b e = ap (λ (l : List ℕ). laid fs l (at + length f)) e
+
+-- ---- where there is room, no field is refused
+
+-- a write keeps the room
+pub room : (f b : List ℕ) (at : ℕ) {c : List ℕ} {n : ℕ} → c ≡ written f b at → n ≤ length b → n ≤ length c
+room f b at e h = omega (arith, length-written f b at, ap length e)
+
+pub not-refused : (f b : List ℕ) (at : ℕ) (e : WireError) → at + length f ≤ length b → refused e ≡ writing f b at → ⊥
+not-refused f b at e h q = let w = (writes f b at h).0 in cc

@@ -6,10 +6,10 @@ use mathlib.Core.List.{List, [], ◌∷◌, ◌++◌, flatten}
 use native.Mathlib.Omega.{arith}
 use lib.ListN.{length, set, drop}
 use lib.Seq.{sets, sets-eq}
-use Rattle.integer.specs.Fields.{int_at}
 use Rattle.integer_write.specs.Writing.{bytes_of, int_bytes, written}
 use Rattle.integer_write.proofs.Cases.{writes}
 use Rattle.integer_write.proofs.Back.{length-written}
+use Rattle.numbers.specs.declared.Message.TheVariants.{FlightResult}
 use Rattle.numbers.specs.Numbers.{whole_of}
 use Rattle.bay_log.specs.Log.{shown_of, log_fields}
 use Rattle.bay_log.proofs.Laid.{laid, laid-is, field}
@@ -34,15 +34,15 @@ module _ (event : ℕ) (p : List ℕ) (b0 : List ℕ) (room : 32 ≤ length b0) 
 
   module _ (b1 b3 b4 b5 b6 b7 b8 b9 : List ℕ)
       (e1 : b1 ≡ written (bytes_of 4 event) b0 0)
-      (e3 : b3 ≡ written (int_bytes 3 (int_at 3 p 1)) (set b1 4 0xD4) 5)
-      (e4 : b4 ≡ written (int_bytes 4 (shown_of (int_at 3 p 16))) b3 8)
-      (e5 : b5 ≡ written (int_bytes 4 (shown_of (int_at 3 p 19))) b4 12)
-      (e6 : b6 ≡ written (int_bytes 4 (shown_of (int_at 3 p 22))) b5 16)
-      (e7 : b7 ≡ written (int_bytes 4 (shown_of (int_at 3 p 25))) b6 20)
-      (e8 : b8 ≡ written (int_bytes 4 (shown_of (int_at 3 p 31))) b7 24)
-      (e9 : b9 ≡ written (int_bytes 4 (int_at 3 p 43)) b8 28) where
+      (e3 : b3 ≡ written (int_bytes 3 (whole_of FlightResult p 0)) (set b1 4 0xD4) 5)
+      (e4 : b4 ≡ written (int_bytes 4 (shown_of (whole_of FlightResult p 5))) b3 8)
+      (e5 : b5 ≡ written (int_bytes 4 (shown_of (whole_of FlightResult p 6))) b4 12)
+      (e6 : b6 ≡ written (int_bytes 4 (shown_of (whole_of FlightResult p 7))) b5 16)
+      (e7 : b7 ≡ written (int_bytes 4 (shown_of (whole_of FlightResult p 8))) b6 20)
+      (e8 : b8 ≡ written (int_bytes 4 (shown_of (whole_of FlightResult p 10))) b7 24)
+      (e9 : b9 ≡ written (int_bytes 4 (whole_of FlightResult p 14)) b8 28) where
     pub record-laid : b9 ≡ sets b0 0 (flatten (log_fields event p))
-    unfolding laid log_fields bytes_of int_bytes whole_of
+    unfolding laid log_fields bytes_of int_bytes
     record-laid =
         let fs = log_fields event p in
         field _ (drop 9 fs) 28 b8 e9

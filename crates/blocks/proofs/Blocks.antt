@@ -1,12 +1,15 @@
 -- Bytes read past a string's end, and a block's stores one by one.
 -- `block` reads by the first, `put_block` stores by the second.
 use mathlib.Core.Path.{◌≡◌, refl}
-use mathlib.Core.List.{List, [], ◌∷◌, ◌++◌}
-use Prim.Native.Nat.{ℕ, zero, suc, ◌+◌, ◌<◌}
-use native.Mathlib.Nat.{add-suc}
-use native.Mathlib.Numerals.{add-one}
-use lib.ListN.{length, drop, get_or, set, replicate}
-use lib.Seq.{sets, drop-cons}
+use mathlib.Core.List.{List, [], ◌∷◌, ◌++◌, append_assoc}
+use Prim.Native.Nat.{ℕ, zero, suc, ◌+◌, ◌-◌, ◌≤◌}
+use lib.ListN.{length, get_or, replicate}
+use lib.Seq.{sets, sets-eq, drop-drop}
+use borrow.Rule.Slice.PartMut.{put_mid}
+use borrow.Author.Tests.{le-leb}
+use native.Mathlib.Omega.{arith}
+use lib.Dec.{leb}
+use mathlib.Core.Bool.{cond}
 
 zeros : (n k : ℕ) → ◌≡◌ {A = ℕ} (get_or (replicate n 0) k 0) 0
 zeros zero k = refl
@@ -18,6 +21,10 @@ behind [] n k = zeros n k
 behind (b ∷ s) n zero = refl
 behind (b ∷ s) n (suc k) = behind s n k
 
--- the stores of a from its byte k on
-pub sets-from : (a l : List ℕ) (at k : ℕ) → k < length a → sets (set l (at + k) (get_or a k 0)) (at + (k + 1)) (drop (k + 1) a) ≡ sets l (at + k) (drop k a)
-sets-from a l at k h = rw (drop-cons a k 0 h, add-one, add-suc)
+-- sixteen bytes that are laid over a part are those stores
+pub laid-sets : (l p a : List ℕ) (at : ℕ) → at + 16 ≤ length l → p ≡ a → length a ≡ 16
+    → put_mid at (at + 16 - at) l p ≡ cond (leb (at + 16) (length l)) (sets l at a) l
+laid-sets l p a at h e n =
+    let k : at + 16 - at ≡ 16 = omega arith in
+    let f : at + length a ≤ length l = omega arith in
+    rw (le-leb _ _ h, e, k) (rw (sets-eq a l at f, n, drop-drop, append_assoc))

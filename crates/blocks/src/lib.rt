@@ -12,10 +12,8 @@ pub fn block(s: &[u8]) -> [u8; 16]
     ensures { result ≡ take 16 (s.now ++ replicate 16 0) }
 {
     let mut a = [0u8; 16];
-    let mut k = 0;
-    while k < 16 {
-        a[k] = byte_at(s, k);
-        k += 1;
+    for (k, x) in a.iter_mut().enumerate() {
+        *x = byte_at(s, k);
     }
     a
 }
@@ -30,9 +28,5 @@ pub fn put_block(a: [u8; 16], buf: &mut [u8], at: usize)
     if at > buf.len() - 16 {
         return;
     }
-    let mut k = 0;
-    while k < 16 {
-        buf[at + k] = a[k];
-        k += 1;
-    }
+    buf[at..at + 16].copy_from_slice(&a);
 }

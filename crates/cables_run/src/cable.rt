@@ -1,74 +1,52 @@
 // A cable: it cuts a capture into pieces, and offers each, and each untaken rest of it again, to a splitter that started fresh.
-// What is heard is printed as it comes.
-ghost use Rattle.std.specs.Prelude.{◌≤◌, ◌<◌};
-
+// What is heard is printed as it comes. Each function answers whether all of it could be printed.
 use crate::heard;
 use splitter::FrameSplitter;
 
-// One byte at a time; or in pieces of many sizes, an empty one before each. Answers whether all that was heard could be printed.
-pub(crate) fn hear(rt: &HostRuntime, hold: &mut [u8], capture: &[u8], by_pieces: bool) -> bool {
-    let mut cable = Cable {
-        splitter: FrameSplitter::new(),
-        is_written: heard::begin(rt, by_pieces, hold.len()),
-    };
-    let mut at = 0;
-    while at < capture.len() {
-        let to = cut(at, capture.len(), by_pieces);
-        cable = bring(rt, cable, hold, &capture[at..to], by_pieces);
-        at = to;
-    }
-    cable.is_written && heard::end(rt, cable.splitter, hold)
+// One byte at a time. Hold buffer and capture are two buffers of the caller's, lent for one call.
+pub(crate) fn by_bytes(rt: &HostRuntime, hold: &mut [u8], capture: &[u8]) -> bool {
+    let mut splitter = FrameSplitter::new();
+    heard::begin(rt, b"by bytes, hold", hold.len())
+        && capture
+            .chunks(1)
+            .all(|piece| offer(rt, &mut splitter, hold, piece))
+        && heard::end(rt, splitter, hold)
 }
 
-#[derive(Drop)]
-struct Cable {
-    splitter: FrameSplitter,
-    is_written: bool,
-}
-
-// Where the piece that starts at index at ends: a byte behind it, or by its place, up to 509 behind it.
-fn cut(at: usize, len: usize, by_pieces: bool) -> usize
-    requires { at < len }
-    ensures { (at < result) × (result ≤ len) }
-{
-    if !by_pieces {
-        return at + 1;
+// In pieces of many sizes, an empty one before each: a piece has a byte, or by its place, up to 509.
+pub(crate) fn by_pieces(rt: &HostRuntime, hold: &mut [u8], capture: &[u8]) -> bool {
+    if !heard::begin(rt, b"by pieces, hold", hold.len()) {
+        return false;
     }
-    let size = at % 509 + 1;
-    if len - at < size {
-        return len;
+    let mut splitter = FrameSplitter::new();
+    let mut rest = capture;
+    while !rest.is_empty() {
+        let at = capture.len() - rest.len();
+        let (piece, behind) = rest.split_at((at % 509 + 1).min(rest.len()));
+        if !offer(rt, &mut splitter, hold, b"") || !offer(rt, &mut splitter, hold, piece) {
+            return false;
+        }
+        rest = behind;
     }
-    at + size
-}
-
-// The piece; by pieces, an empty one before it.
-fn bring(rt: &HostRuntime, cable: Cable, hold: &mut [u8], piece: &[u8], by_pieces: bool) -> Cable {
-    if by_pieces {
-        let cable = offer(rt, cable, hold, b"");
-        return offer(rt, cable, hold, piece);
-    }
-    offer(rt, cable, hold, piece)
+    heard::end(rt, splitter, hold)
 }
 
 // A piece until none of it is left; an empty one is offered once.
-// A proved loop has to end: the turns are counted down from a number that no piece uses up.
-fn offer(rt: &HostRuntime, start: Cable, hold: &mut [u8], piece: &[u8]) -> Cable {
-    let mut cable = start;
-    let mut at = 0;
-    let mut turns = u64::MAX;
-    while turns > 0 {
-        let splitter = cable.splitter;
-        let rest = &piece[at..];
-        let fed = splitter.feed(hold, rest);
-        cable = Cable {
-            splitter: fed.splitter,
-            is_written: cable.is_written && heard::answer(rt, fed.event, rest, hold),
+// A proved loop has to end: no piece uses up the turns that are counted here.
+fn offer(rt: &HostRuntime, splitter: &mut FrameSplitter, hold: &mut [u8], piece: &[u8]) -> bool {
+    let mut rest = piece;
+    for _ in 0..u64::MAX {
+        let Ok(fed) = splitter.feed(hold, rest) else {
+            program::tell(rt, b"cables_run: a call was refused\n");
+            return false;
         };
-        at += fed.taken;
-        if piece.len() <= at {
+        if !heard::answer(rt, fed.event, rest, hold) {
+            return false;
+        }
+        rest = &rest[fed.taken..];
+        if rest.is_empty() {
             break;
         }
-        turns -= 1;
     }
-    cable
+    true
 }

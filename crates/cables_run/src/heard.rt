@@ -1,14 +1,12 @@
 // What a cable hears, printed: how it cuts, a line for each event, and at the end the state, its counts and the bytes held.
 // More is not printed: it depends on the cut. Each function answers whether all of it was written.
+ghost use Rattle.std.specs.Prelude.{◌<◌};
+
+use itoa::Buffer;
 use splitter::{Event, FrameSplitter, Place};
 
-pub(crate) fn begin(rt: &HostRuntime, by_pieces: bool, room: usize) -> bool {
-    let is_written = if by_pieces {
-        print(rt, b"by pieces, hold")
-    } else {
-        print(rt, b"by bytes, hold")
-    };
-    is_written && number(rt, room as u64) && print(rt, b"\n")
+pub(crate) fn begin(rt: &HostRuntime, name: &[u8], room: usize) -> bool {
+    print(rt, name) && number(rt, room as u64) && print(rt, b"\n")
 }
 
 // A frame by its bytes.
@@ -17,10 +15,6 @@ pub(crate) fn answer<'a>(rt: &HostRuntime, event: Event, chunk: &'a [u8], hold: 
         Event::Frame(place) => line(rt, b"frame", view::view(chunk, hold, place)),
         Event::Overlong => print(rt, b"overlong\n"),
         Event::More => true,
-        Event::Err(_) => {
-            program::tell(rt, b"cables_run: a call was refused\n");
-            false
-        }
     }
 }
 
@@ -45,29 +39,24 @@ pub(crate) fn end(rt: &HostRuntime, splitter: FrameSplitter, hold: &[u8]) -> boo
 }
 
 fn number(rt: &HostRuntime, n: u64) -> bool {
-    let mut digits = [0u8; 20];
-    let k = io::decimal(n, &mut digits);
-    print(rt, b" ") && print(rt, &digits[..k])
+    let mut digits = Buffer::new();
+    print(rt, b" ") && print(rt, digits.format(n).as_bytes())
 }
 
 fn line(rt: &HostRuntime, name: &[u8], bytes: &[u8]) -> bool {
-    if !print(rt, name) {
-        return false;
-    }
-    let mut i = 0;
-    while i < bytes.len() {
-        if !byte(rt, bytes[i]) {
-            return false;
-        }
-        i += 1;
-    }
-    print(rt, b"\n")
+    print(rt, name) && bytes.iter().all(|b| byte(rt, *b)) && print(rt, b"\n")
 }
 
 fn byte(rt: &HostRuntime, n: u8) -> bool {
-    let mut digits = [0u8; 16];
-    let k = io::hex(n as u64, 2, &mut digits);
-    print(rt, b" ") && print(rt, &digits[..k])
+    print(rt, &[b' ', hex_digit(n / 16), hex_digit(n % 16)])
+}
+
+// `0` to `9`, then `a` to `f`. By hand: `program::write` takes bytes and tells what failed, which a
+// printing macro leaves to each call.
+fn hex_digit(d: u8) -> u8
+    requires { d < 16 }
+{
+    if d < 10 { b'0' + d } else { b'a' + (d - 10) }
 }
 
 fn print(rt: &HostRuntime, text: &[u8]) -> bool {

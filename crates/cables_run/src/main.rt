@@ -5,9 +5,9 @@
 mod cable;
 mod heard;
 
-ghost use Rattle.io.specs.Counts.{IsPrefixLen};
+ghost use Rattle.std.specs.Prelude.{◌≤◌, IfSome, length};
 
-use crate::cable::hear;
+use crate::cable::{by_bytes, by_pieces};
 
 fn main(rt: HostRuntime) {
     if program::alone(
@@ -15,15 +15,16 @@ fn main(rt: HostRuntime) {
         program::word_count(&rt),
         b"usage: ./run cables_run < CAPTURE\n",
     ) {
-        let mut room = io::large_buffer();
-        let read = read_all(&rt, &mut room);
-        if read.is_whole {
-            both(&rt, &room[..read.len]);
-        } else if read.len == room.len() {
-            program::tell(
-                &rt,
-                b"cables_run: the capture has more than 65535 bytes: give it a part, as head -c 65535 does\n",
-            );
+        let mut room = [0u8; 65536];
+        if let Some(len) = read_all(&rt, &mut room) {
+            if len < room.len() {
+                both(&rt, &room[..len]);
+            } else {
+                program::tell(
+                    &rt,
+                    b"cables_run: the capture has more than 65535 bytes: give it a part, as head -c 65535 does\n",
+                );
+            }
         }
     }
 }
@@ -35,30 +36,21 @@ fn both(rt: &HostRuntime, capture: &[u8]) -> bool {
 }
 
 fn twice(rt: &HostRuntime, hold: &mut [u8], capture: &[u8]) -> bool {
-    hear(rt, hold, capture, false) && hear(rt, hold, capture, true)
+    by_bytes(rt, hold, capture) && by_pieces(rt, hold, capture)
 }
 
-// How many bytes came, and whether that was the end of the input.
-#[derive(Drop)]
-struct Read {
-    len: usize,
-    is_whole: bool,
-}
-
-// All of the input at the front of room; where it fills the room, its end is not seen.
-fn read_all(rt: &HostRuntime, room: &mut [u8]) -> Read
-    ensures { IsPrefixLen result.len room.new }
+// All of the input at the front of room, and how many bytes came: as many as there is room for, where its end was not seen. None where a
+// read failed, and that was told. No `Sink`: this reads into one room until it is full, where that takes piece after piece.
+fn read_all(rt: &HostRuntime, room: &mut [u8]) -> Option<usize>
+    ensures { IfSome result (λ len. len ≤ length room.new) }
 {
     let mut len = 0;
-    let mut is_whole = false;
     while len < room.len() {
-        let got = program::read(rt, b"cables_run", &mut room[len..]);
-        let n = io::count(got, &room[len..]);
-        if n == 0 {
-            is_whole = got == 0;
-            break;
+        match program::read(rt, b"cables_run", &mut room[len..]) {
+            Some(0) => break,
+            Some(n) => len += n,
+            None => return None,
         }
-        len += n;
     }
-    Read { len, is_whole }
+    Some(len)
 }

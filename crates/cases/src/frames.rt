@@ -1,238 +1,188 @@
-// Frames and the splitter: the operations 20 (open), 21 (encode), 22 (split), 23 (a state), 24 (copy_payload) and 25 (a state with its counts).
+// Frames and the splitter: opening, encoding, copying a payload, and what a splitter makes of a stream in chunks.
 // The case's numbers are the lent buffer's length, DEST, SRC and TYPE, H, and the sizes of the chunks offered in turn.
-use crate::case::{cut, lent, little, number, within};
-use crate::say;
+use crate::case::{Case, low_byte, low_half};
+use crate::operation::FrameCall;
+use crate::say::{Line, Refusal, ask, each, end, filled, hex, read};
 
-pub(crate) fn open(wire: &[u8], out: &mut [u8]) -> usize {
-    let mut header = [0u64; 4];
-    let mut values = [0u64; 3];
-    let k = abi_frame::mvd_open(wire, &mut header, &mut values);
-    if k != 0 {
-        return say::refused(k, &values, out);
+pub(crate) fn answer(
+    call: FrameCall,
+    case: Case,
+    data: &[u8],
+    line: &mut Line,
+) -> Result<(), Refusal> {
+    match call {
+        FrameCall::Open => open(data, line)?,
+        FrameCall::Encode => encode(case, data, line),
+        FrameCall::Split => split(case, data, line)?,
+        FrameCall::State => state(case, data, line)?,
+        FrameCall::CopyPayload => copy_payload(case, data, line),
+        FrameCall::CountedState => counted_state(case, data, line)?,
     }
-    let words = &header;
-    let at = say::decimal(0, out, 0);
-    let at = say::wholes(words, 4, out, at);
-    say::end(out, at)
+    Ok(())
 }
 
-pub(crate) fn copy_payload(a: usize, wire: &[u8], out: &mut [u8]) -> usize {
-    let mut room = lent();
-    let n = within(a, &room);
-    let buf = &mut room[..n];
-    let mut length = 0usize;
-    let mut values = [0u64; 3];
-    let k = abi_frame::mvd_copy_payload(wire, buf, &mut length, &mut values);
-    say::filled(k, &values, length, buf, out)
+fn open(wire: &[u8], line: &mut Line) -> Result<(), Refusal> {
+    let header = read([0; 4], |header, values| {
+        abi_frame::mvd_open(wire, header, values)
+    })?;
+    line.put("0");
+    each(line, &header, |n| n);
+    end(line);
+    Ok(())
 }
 
-pub(crate) fn encode(head: &[u8], b: u64, payload: &[u8], out: &mut [u8]) -> usize {
-    let mut room = lent();
-    let n = within(b as usize, &room);
-    let wire = &mut room[..n];
-    let mut length = 0usize;
-    let mut values = [0u64; 3];
-    let k = abi_frame::mvd_encode(
-        integer::byte_at(head, 6),
-        integer::byte_at(head, 7),
-        integer::byte_at(head, 8),
-        payload,
-        wire,
-        &mut length,
-        &mut values,
-    );
-    say::filled(k, &values, length, wire, out)
+fn copy_payload(case: Case, wire: &[u8], line: &mut Line) {
+    let mut room = [0xA5; 1024];
+    let buf = &mut room[..1024.min(case.a as usize)];
+    let reply = read(0, |len, values| {
+        abi_frame::mvd_copy_payload(wire, buf, len, values)
+    });
+    filled(line, reply, buf);
+}
+
+fn encode(case: Case, payload: &[u8], line: &mut Line) {
+    let [_, _, _, _, _, dest, src, type_id] = case.a.to_be_bytes();
+    let mut room = [0xA5; 1024];
+    let wire = &mut room[..1024.min(case.b as usize)];
+    let reply = read(0, |len, values| {
+        abi_frame::mvd_encode(dest, src, type_id, payload, wire, len, values)
+    });
+    filled(line, reply, wire);
 }
 
 // A stream to a fresh splitter, in chunks of four sizes in turn: 64 each where all are 0.
-pub(crate) fn split(head: &[u8], stream: &[u8], out: &mut [u8]) -> usize {
-    let b = number(head, 9);
-    let sizes = if b == 0 { 0x0040_0040_0040_0040 } else { b };
-    let fresh = Splitter {
-        words: [0; 7],
-        at: 0,
-        told: 0,
-        to: 0,
+fn split(case: Case, stream: &[u8], line: &mut Line) -> Result<(), Refusal> {
+    let sizes = if case.b == 0 {
+        [64; 4]
+    } else {
+        [
+            low_half(case.b >> 48),
+            low_half(case.b >> 32),
+            low_half(case.b >> 16),
+            low_half(case.b),
+        ]
     };
-    both(fresh, number(head, 1) as usize, sizes, stream, out)
+    let source = Source {
+        words: [0; 7],
+        room: case.a as usize,
+        sizes,
+        stream,
+    };
+    source.show(line)
 }
 
 // A chunk, at once, to a state that the case gives, which took what it holds and no more.
-pub(crate) fn state(head: &[u8], chunk: &[u8], out: &mut [u8]) -> usize {
-    let held = number(head, 1);
-    given(head, [held, mark(head), held, 0, 0, 0, held], chunk, out)
+fn state(case: Case, chunk: &[u8], line: &mut Line) -> Result<(), Refusal> {
+    let held = case.a;
+    given(case, [held, 0, 0, 0, held], chunk, line)
 }
 
-// A chunk, at once, to a state whose counts stand before it.
-pub(crate) fn counted_state(head: &[u8], data: &[u8], out: &mut [u8]) -> usize {
-    let words = [
-        number(head, 1),
-        mark(head),
-        little(data, 0),
-        little(data, 8),
-        little(data, 16),
-        little(data, 24),
-        little(data, 32),
-    ];
-    given(head, words, cut(data, 40, data.len()), out)
+// A chunk, at once, to a state whose counts stand before it, the low byte first.
+fn counted_state(case: Case, data: &[u8], line: &mut Line) -> Result<(), Refusal> {
+    let mut counts = [0; 5];
+    for (count, word) in counts.iter_mut().zip(data.chunks_exact(8)) {
+        *count = word
+            .iter()
+            .rev()
+            .fold(0, |n, &byte| n << 8 | u64::from(byte));
+    }
+    given(case, counts, data.get(40..).unwrap_or(&[]), line)
 }
 
-// The second number's low byte.
-fn mark(head: &[u8]) -> u64 {
-    integer::byte_at(head, 16) as u64
-}
-
-// H is the rest of the second number.
-fn given(head: &[u8], words: [u64; 7], chunk: &[u8], out: &mut [u8]) -> usize {
-    let start = Splitter {
-        words,
-        at: 0,
-        told: 0,
-        to: 0,
+// The first number is the count; the mark is the second number's low byte, and H is the rest of it.
+fn given(case: Case, counts: [u64; 5], chunk: &[u8], line: &mut Line) -> Result<(), Refusal> {
+    let [taken, dropped, framed, lost, held] = counts;
+    let mark = u64::from(low_byte(case.b));
+    let source = Source {
+        words: [case.a, mark, taken, dropped, framed, lost, held],
+        room: (case.b >> 8) as usize,
+        sizes: [u16::MAX; 4],
+        stream: chunk,
     };
-    both(
-        start,
-        (number(head, 9) >> 8) as usize,
-        0xFFFF_FFFF_FFFF_FFFF,
-        chunk,
-        out,
-    )
+    source.show(line)
 }
 
-// A splitter's state, where the stream and the answer line stand, and what the last call answered.
+// A splitter's state with a hold buffer's length, and the stream that it is offered.
 #[derive(Clone, Copy)]
-struct Splitter {
+struct Source<'a> {
     words: [u64; 7],
-    at: usize,
-    told: u64,
-    to: usize,
+    room: usize,
+    sizes: [u16; 4],
+    stream: &'a [u8],
 }
 
-// The stream twice, each time from the start: first the frames' lengths, and the state at the end; then their bytes, and those held.
-fn both(start: Splitter, h: usize, sizes: u64, stream: &[u8], out: &mut [u8]) -> usize {
-    let end = lengths(start, h, sizes, stream, out);
-    if end.told != 0 {
-        return say::refused(end.told, &[0, 0, 0], out);
+// What a call answers of the stream; a frame by its length, as the call tells it, and its bytes.
+#[derive(Clone, Copy)]
+enum Event<'a> {
+    More,
+    Frame(u64, &'a [u8]),
+    Overlong,
+}
+
+impl Source<'_> {
+    // The stream twice, each time from the start: first the frames' lengths, -1 for one above H, and the state at the end;
+    // then their bytes, and those held.
+    fn show(self, line: &mut Line) -> Result<(), Refusal> {
+        let mut room = [0xA5; 1024];
+        let hold = &mut room[..1024.min(self.room)];
+        line.put("0");
+        let end = self.offer(hold, |event| match event {
+            Event::More => {}
+            Event::Frame(len, _) => line.put(format_args!(" {len}")),
+            Event::Overlong => line.put(" -1"),
+        })?;
+        each(line, &end, |n| n);
+        let mut room = [0xA5; 1024];
+        let hold = &mut room[..1024.min(self.room)];
+        line.put(" :");
+        let end = self.offer(hold, |event| {
+            if let Event::Frame(_, bytes) = event {
+                hex(line, bytes);
+            }
+        })?;
+        hex(line, hold.get(..end[0] as usize).unwrap_or(&[]));
+        line.put("\n");
+        Ok(())
     }
-    contents(start, h, sizes, stream, out, end.to)
-}
 
-fn lengths(start: Splitter, h: usize, sizes: u64, stream: &[u8], out: &mut [u8]) -> Splitter {
-    let mut room = lent();
-    let n = within(h, &room);
-    let at = say::decimal(0, out, 0);
-    let end = offer(moved(start, at), sizes, stream, &mut room[..n], false, out);
-    let words = &end.words;
-    let at = say::wholes(words, 7, out, end.to);
-    moved(end, at)
-}
-
-fn contents(
-    start: Splitter,
-    h: usize,
-    sizes: u64,
-    stream: &[u8],
-    out: &mut [u8],
-    at: usize,
-) -> usize {
-    let mut room = lent();
-    let n = within(h, &room);
-    let hold = &mut room[..n];
-    let at = say::text(b" :", out, at);
-    let end = offer(moved(start, at), sizes, stream, hold, true, out);
-    let count = end.words[0] as usize;
-    let at = say::hex(cut(hold, 0, count), out, end.to);
-    say::text(b"\n", out, at)
-}
-
-// The same state, with another place in the answer line.
-fn moved(state: Splitter, to: usize) -> Splitter {
-    let words = state.words;
-    Splitter {
-        words,
-        at: state.at,
-        told: state.told,
-        to,
-    }
-}
-
-// Chunks of the four sizes in turn, each until all of it is taken, one at least; `shown` says whether bytes are put or lengths.
-// A proved loop has to end: the turns are counted down from a number that no stream uses up.
-fn offer(
-    start: Splitter,
-    first: u64,
-    stream: &[u8],
-    hold: &mut [u8],
-    shown: bool,
-    out: &mut [u8],
-) -> Splitter {
-    let mut state = start;
-    let mut sizes = first;
-    let mut end = 0;
-    let mut turns = u64::MAX;
-    while turns > 0 {
-        if end <= state.at {
-            end = within(
-                std::num::wrapping_add_usize(end, (sizes >> 48) as usize),
-                stream,
-            );
-            sizes = sizes << 16 | sizes >> 48;
+    // Chunks of the four sizes in turn, each until all of it is taken, one at least; `tell` is told each event. The state at the end.
+    // A proved loop has to end: no stream uses up the turns.
+    fn offer<F: FnMut(Event<'_>)>(self, hold: &mut [u8], mut tell: F) -> Result<[u64; 7], Refusal>
+        requires { F.IsAlwaysCallable tell }
+    {
+        let mut words = self.words;
+        let mut at = 0usize;
+        let mut end = 0usize;
+        let mut sizes = self.sizes;
+        for _ in 0..u64::MAX {
+            if end <= at {
+                end = self
+                    .stream
+                    .len()
+                    .min(end.saturating_add(usize::from(sizes[0])));
+                sizes.rotate_left(1);
+            }
+            let chunk = self.stream.get(at..end).unwrap_or(&[]);
+            let mut fed = [0; 5];
+            ask(|values| abi_splitter::mvd_feed(&mut words, hold, chunk, &mut fed, values))?;
+            tell(event_of(&fed, hold, chunk));
+            at = at.saturating_add(fed[1] as usize);
+            if self.stream.len() <= at {
+                break;
+            }
         }
-        state = feed(state, stream, end, hold, shown, out);
-        if state.told != 0 || stream.len() <= state.at {
-            break;
-        }
-        turns -= 1;
-    }
-    state
-}
-
-fn feed(
-    state: Splitter,
-    stream: &[u8],
-    end: usize,
-    hold: &mut [u8],
-    shown: bool,
-    out: &mut [u8],
-) -> Splitter {
-    let mut words = state.words;
-    let mut fed = [0u64; 5];
-    let mut values = [0u64; 3];
-    let chunk = cut(stream, state.at, end);
-    let told = abi_splitter::mvd_feed(&mut words, hold, chunk, &mut fed, &mut values);
-    let to = event(fed, chunk, hold, shown, out, state.to);
-    Splitter {
-        words,
-        at: std::num::wrapping_add_usize(state.at, fed[1] as usize),
-        told,
-        to,
+        Ok(words)
     }
 }
 
-// A frame's bytes, or its length, -1 for one above H. Where there is no frame its place is empty.
-fn event(
-    fed: [u64; 5],
-    chunk: &[u8],
-    hold: &[u8],
-    shown: bool,
-    out: &mut [u8],
-    at: usize,
-) -> usize {
-    let kind = fed[0];
-    let len = fed[4];
-    let start = fed[3] as usize;
-    let end = std::num::wrapping_add_usize(start, len as usize);
-    if shown {
-        if fed[2] == 1 {
-            say::hex(cut(hold, start, end), out, at)
-        } else {
-            say::hex(cut(chunk, start, end), out, at)
-        }
-    } else if kind == 1 {
-        say::whole(len, out, at)
-    } else if kind == 2 {
-        say::text(b" -1", out, at)
-    } else {
-        at
+fn event_of<'a>(fed: &[u64; 5], hold: &'a [u8], chunk: &'a [u8]) -> Event<'a> {
+    let [kind, _, in_hold, start, len] = *fed;
+    let start = start as usize;
+    let end = start.saturating_add(len as usize);
+    let bytes = if in_hold == 1 { hold } else { chunk };
+    match kind {
+        1 => Event::Frame(len, bytes.get(start..end).unwrap_or(&[])),
+        2 => Event::Overlong,
+        _ => Event::More,
     }
 }

@@ -1,215 +1,226 @@
-// The messages: the operations 30 to 3F, a field by number (40) and the bay log's record (41).
+// The messages: each decoded, or a point of it, whether a shot failed, a field by number and the bay log's record.
 // The case's numbers are a lent buffer's length, an index, a number, a message or an event.
-ghost use Rattle.cases.specs.Front.{Front};
+use crate::case::{Case, low_byte, low_word};
+use crate::operation::{MessageCall, RecordCall};
+use crate::say::{Float, Line, Refusal, ask, bytes, each, end, lent, one, read, read_two};
+use abi_club_prc::mvd_club_prc_point;
+use abi_failure::{mvd_is_failed, mvd_is_failed_v1, mvd_is_model_failure, mvd_is_no_read};
+use abi_flight::{mvd_club_result, mvd_flight_result, mvd_flight_result_v1};
+use abi_prc::{mvd_prc_data, mvd_prc_point};
+use abi_shot_text::{mvd_is_idle, mvd_is_processed, mvd_is_trigger};
+use abi_spin::mvd_spin_result;
+use abi_tracking::mvd_tracking_status;
 
-use crate::case::{cut, lent, within};
-use crate::say;
-
-pub(crate) fn ask(op: u8, a: usize, data: &[u8], out: &mut [u8]) -> usize {
-    match op {
-        0x30 => flight_result(data, out),
-        0x31 => flight_result_v1(data, out),
-        0x32 => club_result(data, out),
-        0x33 => spin_result(data, out),
-        0x34 => tracking_status(data, out),
-        0x35 => speed_profile(a, data, out),
-        0x36 => prc_data(data, out),
-        0x37 => prc_point(a, data, out),
-        0x38 => club_prc(data, out),
-        0x39 => club_prc_point(a, data, out),
-        0x3B => shot_text(data, out),
-        _ => has_failed(op, a, data, out),
+pub(crate) fn record(
+    call: RecordCall,
+    index: usize,
+    data: &[u8],
+    line: &mut Line,
+) -> Result<(), Refusal> {
+    match call {
+        RecordCall::FlightResult => {
+            lists(line, decoded(([0; 8], [0.0; 44]), data, mvd_flight_result)?);
+        }
+        RecordCall::FlightResultV1 => {
+            lists(
+                line,
+                decoded(([0; 4], [0.0; 27]), data, mvd_flight_result_v1)?,
+            );
+        }
+        RecordCall::ClubResult => {
+            lists(line, decoded(([0; 3], [0.0; 53]), data, mvd_club_result)?);
+        }
+        RecordCall::SpinResult => {
+            lists(line, decoded(([0; 46], [0.0; 16]), data, mvd_spin_result)?);
+        }
+        RecordCall::PrcPoint => {
+            lists(
+                line,
+                point(([0; 8], [0.0; 16]), data, index, mvd_prc_point)?,
+            );
+        }
+        RecordCall::ClubPrcPoint => {
+            lists(
+                line,
+                point(([0; 9], [0.0; 20]), data, index, mvd_club_prc_point)?,
+            );
+        }
     }
+    Ok(())
 }
 
-fn flight_result(data: &[u8], out: &mut [u8]) -> usize {
-    let mut whole = [0i32; 8];
-    let mut figures = [0.0; 44];
-    let mut values = [0u64; 3];
-    let k = abi_flight::mvd_flight_result(data, &mut whole, &mut figures, &mut values);
-    let ns = &whole;
-    let xs = &figures;
-    say::record(k, &values, ns, xs, out)
+// What a call says of a payload.
+fn decoded<A: Copy, B: Copy, F: FnOnce(&[u8], &mut A, &mut B, &mut [u64; 3]) -> u64>(
+    zeros: (A, B),
+    data: &[u8],
+    call: F,
+) -> Result<(A, B), Refusal>
+    requires { F.IsAlwaysCallable call }
+{
+    read_two(zeros, |a, b, values| call(data, a, b, values))
 }
 
-fn flight_result_v1(data: &[u8], out: &mut [u8]) -> usize {
-    let mut whole = [0i32; 4];
-    let mut figures = [0.0; 27];
-    let mut values = [0u64; 3];
-    let k = abi_flight::mvd_flight_result_v1(data, &mut whole, &mut figures, &mut values);
-    let ns = &whole;
-    let xs = &figures;
-    say::record(k, &values, ns, xs, out)
+// What it says of a point of one.
+fn point<A: Copy, B: Copy, F: FnOnce(&[u8], usize, &mut A, &mut B, &mut [u64; 3]) -> u64>(
+    zeros: (A, B),
+    data: &[u8],
+    index: usize,
+    call: F,
+) -> Result<(A, B), Refusal>
+    requires { F.IsAlwaysCallable call }
+{
+    read_two(zeros, |a, b, values| call(data, index, a, b, values))
 }
 
-fn club_result(data: &[u8], out: &mut [u8]) -> usize {
-    let mut whole = [0i32; 3];
-    let mut figures = [0.0; 53];
-    let mut values = [0u64; 3];
-    let k = abi_flight::mvd_club_result(data, &mut whole, &mut figures, &mut values);
-    let ns = &whole;
-    let xs = &figures;
-    say::record(k, &values, ns, xs, out)
+// A record's whole numbers, and then its floats.
+fn lists<const N: usize, const M: usize>(line: &mut Line, record: ([i32; N], [f64; M])) {
+    let (whole, figures) = record;
+    line.put("0");
+    each(line, &whole, |n| n);
+    each(line, &figures, Float);
+    end(line);
 }
 
-fn spin_result(data: &[u8], out: &mut [u8]) -> usize {
-    let mut whole = [0i32; 46];
-    let mut figures = [0.0; 16];
-    let mut values = [0u64; 3];
-    let k = abi_spin::mvd_spin_result(data, &mut whole, &mut figures, &mut values);
-    let ns = &whole;
-    let xs = &figures;
-    say::record(k, &values, ns, xs, out)
+pub(crate) fn answer(
+    call: MessageCall,
+    case: Case,
+    data: &[u8],
+    line: &mut Line,
+) -> Result<(), Refusal> {
+    let a = case.a as usize;
+    match call {
+        MessageCall::TrackingStatus => tracking_status(data, line)?,
+        MessageCall::SpeedProfile => speed_profile(a, data, line),
+        MessageCall::PrcData => prc_data(data, line)?,
+        MessageCall::ClubPrc => one(line, abi_club_prc::mvd_club_prc(data)),
+        MessageCall::ShotText => shot_text(data, line),
+        MessageCall::IsModelFailure => {
+            one(
+                line,
+                read(
+                    0,
+                    |failed, values| mvd_is_model_failure(data, failed, values),
+                )?,
+            );
+        }
+        MessageCall::IsNoRead => {
+            one(
+                line,
+                read(0, |unread, values| mvd_is_no_read(data, unread, values))?,
+            );
+        }
+        MessageCall::IsFailed => {
+            one(
+                line,
+                read(0, |failed, values| mvd_is_failed(a, data, failed, values))?,
+            );
+        }
+        MessageCall::IsFailedV1 => {
+            one(
+                line,
+                read(
+                    0,
+                    |failed, values| mvd_is_failed_v1(a, data, failed, values),
+                )?,
+            );
+        }
+        MessageCall::Field => field(case, data, line)?,
+        MessageCall::BayLog => bay_log(case, data, line),
+    }
+    Ok(())
 }
 
 // The unsigned numbers come first.
-fn tracking_status(data: &[u8], out: &mut [u8]) -> usize {
-    let mut counts = [0u64; 16];
-    let mut whole = [0i32; 4];
-    let mut values = [0u64; 3];
-    let k = abi_tracking::mvd_tracking_status(data, &mut counts, &mut whole, &mut values);
-    if k != 0 {
-        return say::refused(k, &values, out);
-    }
-    let ns = &counts;
-    let zs = &whole;
-    let at = say::decimal(0, out, 0);
-    let at = say::wholes(ns, 16, out, at);
-    let at = say::signs(zs, out, at);
-    say::end(out, at)
+fn tracking_status(data: &[u8], line: &mut Line) -> Result<(), Refusal> {
+    let (counts, whole) = decoded(([0; 16], [0; 4]), data, mvd_tracking_status)?;
+    line.put("0");
+    each(line, &counts, |n| n);
+    each(line, &whole, |n| n);
+    end(line);
+    Ok(())
 }
 
-fn speed_profile(a: usize, payload: &[u8], out: &mut [u8]) -> usize {
-    let mut room = [-7.25; 64];
-    let n = samples_within(a, &room);
-    let speeds = &mut room[..n];
-    let mut whole = [0i32; 4];
-    let mut samples = 0usize;
+// The lent speeds, refused or not.
+fn speed_profile(room: usize, data: &[u8], line: &mut Line) {
+    let mut speeds = [-7.25; 64];
+    let speeds = &mut speeds[..64.min(room)];
+    let mut whole = [0; 4];
+    let mut samples = 0;
     let mut interval = 0.0;
-    let mut values = [0u64; 3];
-    let k = abi_speed_profile::mvd_speed_profile(
-        payload,
-        speeds,
-        &mut whole,
-        &mut samples,
-        &mut interval,
-        &mut values,
-    );
-    if k != 0 {
-        let at = say::told(k, &values, out);
-        let at = say::floats(speeds, out, at);
-        return say::end(out, at);
+    let reply = ask(|values| {
+        abi_speed_profile::mvd_speed_profile(
+            data,
+            speeds,
+            &mut whole,
+            &mut samples,
+            &mut interval,
+            values,
+        )
+    });
+    match reply {
+        Ok(()) => {
+            line.put("0");
+            each(line, &whole, |n| n);
+            line.put(format_args!(" {samples} {}", Float(interval)));
+        }
+        Err(refusal) => line.put(refusal),
     }
-    let ns = &whole;
-    let at = say::decimal(0, out, 0);
-    let at = say::signs(ns, out, at);
-    let at = say::whole(samples as u64, out, at);
-    let at = say::float(interval, out, at);
-    let at = say::floats(speeds, out, at);
-    say::end(out, at)
+    each(line, speeds, Float);
+    end(line);
 }
 
-fn prc_data(data: &[u8], out: &mut [u8]) -> usize {
-    let mut sequence = 0i16;
-    let mut points = 0usize;
-    let mut values = [0u64; 3];
-    let k = abi_prc::mvd_prc_data(data, &mut sequence, &mut points, &mut values);
-    if k != 0 {
-        return say::refused(k, &values, out);
-    }
-    let at = say::decimal(0, out, 0);
-    let at = say::signed(abi::wide(sequence), out, at);
-    let at = say::whole(points as u64, out, at);
-    say::end(out, at)
-}
-
-fn prc_point(index: usize, data: &[u8], out: &mut [u8]) -> usize {
-    let mut whole = [0i32; 8];
-    let mut figures = [0.0; 16];
-    let mut values = [0u64; 3];
-    let k = abi_prc::mvd_prc_point(data, index, &mut whole, &mut figures, &mut values);
-    let ns = &whole;
-    let xs = &figures;
-    say::record(k, &values, ns, xs, out)
-}
-
-fn club_prc(data: &[u8], out: &mut [u8]) -> usize {
-    let points = abi_club_prc::mvd_club_prc(data);
-    say::count(0, &[0, 0, 0], points as u64, out)
-}
-
-fn club_prc_point(index: usize, data: &[u8], out: &mut [u8]) -> usize {
-    let mut whole = [0i32; 9];
-    let mut figures = [0.0; 20];
-    let mut values = [0u64; 3];
-    let k = abi_club_prc::mvd_club_prc_point(data, index, &mut whole, &mut figures, &mut values);
-    let ns = &whole;
-    let xs = &figures;
-    say::record(k, &values, ns, xs, out)
+fn prc_data(data: &[u8], line: &mut Line) -> Result<(), Refusal> {
+    let (sequence, points) = decoded((0, 0), data, mvd_prc_data)?;
+    line.put(format_args!("0 {sequence} {points} :\n"));
+    Ok(())
 }
 
 // Where the text lies, whether each of the three words stands in it, and its bytes.
-fn shot_text(payload: &[u8], out: &mut [u8]) -> usize {
-    let mut start = 0usize;
-    let mut len = 0usize;
+fn shot_text(payload: &[u8], line: &mut Line) {
+    let mut start = 0;
+    let mut len = 0;
     abi_shot_text::mvd_shot_text(payload, &mut start, &mut len);
-    let text = cut(payload, start, std::num::wrapping_add_usize(start, len));
-    let at = say::decimal(0, out, 0);
-    let at = say::whole(start as u64, out, at);
-    let at = say::whole(len as u64, out, at);
-    let at = say::whole(abi_shot_text::mvd_is_processed(text) as u64, out, at);
-    let at = say::whole(abi_shot_text::mvd_is_idle(text) as u64, out, at);
-    let at = say::whole(abi_shot_text::mvd_is_trigger(text) as u64, out, at);
-    say::bytes(text, out, at)
+    let end = start.saturating_add(len);
+    let text = payload.get(start..end).unwrap_or(&[]);
+    line.put(format_args!("0 {start} {len}"));
+    let found = [
+        mvd_is_processed(text),
+        mvd_is_idle(text),
+        mvd_is_trigger(text),
+    ];
+    each(line, &found, |n| n);
+    bytes(line, text);
 }
 
-// Whether a shot failed: `is_model_failure` of D4 (3C), `is_no_read` of E8 (3D), `is_failed` of D4 (3E) and of E8 by a rule's number.
-fn has_failed(op: u8, rule: usize, data: &[u8], out: &mut [u8]) -> usize {
-    let mut failed = 0u8;
-    let mut values = [0u64; 3];
-    let k = match op {
-        0x3C => abi_failure::mvd_is_model_failure(data, &mut failed, &mut values),
-        0x3D => abi_failure::mvd_is_no_read(data, &mut failed, &mut values),
-        0x3E => abi_failure::mvd_is_failed(rule, data, &mut failed, &mut values),
-        _ => abi_failure::mvd_is_failed_v1(rule, data, &mut failed, &mut values),
-    };
-    say::count(k, &values, failed as u64, out)
-}
-
-pub(crate) fn field(head: &[u8], number: usize, data: &[u8], out: &mut [u8]) -> usize {
-    let mut count = 0i32;
+fn field(case: Case, data: &[u8], line: &mut Line) -> Result<(), Refusal> {
+    let message = low_byte(case.b);
+    let number = case.a as usize;
+    let mut count = 0;
     let mut figure = 0.0;
-    let mut is_figure = 0u8;
-    let mut values = [0u64; 3];
-    let k = abi_numbers::mvd_field(
-        integer::byte_at(head, 16),
-        data,
-        number,
-        &mut count,
-        &mut figure,
-        &mut is_figure,
-        &mut values,
-    );
+    let mut is_figure = 0;
+    ask(|values| {
+        abi_numbers::mvd_field(
+            message,
+            data,
+            number,
+            &mut count,
+            &mut figure,
+            &mut is_figure,
+            values,
+        )
+    })?;
     if is_figure == 1 {
-        say::figure(k, &values, figure, out)
+        one(line, Float(figure));
     } else {
-        say::number(k, &values, count, out)
+        one(line, count);
     }
+    Ok(())
 }
 
-pub(crate) fn bay_log(head: &[u8], b: u64, data: &[u8], out: &mut [u8]) -> usize {
-    let mut room = lent();
-    let n = within(b as usize, &room);
-    let buf = &mut room[..n];
-    let mut values = [0u64; 3];
-    let event = integer::uint32_at(head, 5);
-    let k = abi_bay_log::mvd_bay_log(event, data, buf, &mut values);
-    say::lent(k, &values, buf, out)
-}
-
-// A number of a buffer's samples, as `within` is of bytes.
-fn samples_within(n: usize, buf: &[f64]) -> usize
-    ensures { Front result buf.now }
-{
-    if n < buf.len() { n } else { buf.len() }
+fn bay_log(case: Case, data: &[u8], line: &mut Line) {
+    let mut room = [0xA5; 1024];
+    let buf = &mut room[..1024.min(case.b as usize)];
+    let event = low_word(case.a);
+    let reply = ask(|values| abi_bay_log::mvd_bay_log(event, data, buf, values));
+    lent(line, reply, buf);
 }

@@ -1,181 +1,132 @@
-// The parts of an answer line, each put at a place of a lent buffer: whole numbers in decimal, floats by their bits, bytes in hex.
-// A line is the refusal's number or 0, then whole numbers (a refusal's values), floats, and the bytes behind a colon. Each answers the next place.
+// The parts of an answer line: whole numbers in decimal, floats by their bits, bytes in hex.
+// A line is the refusal's number or 0, then whole numbers (a refusal's values), floats, and the bytes behind a colon.
+use crate::text::Text;
+use std::fmt;
+use std::fmt::Display;
 
-// ---- whole lines, from the buffer's front
+// No line of a case within the program's limits is longer.
+pub(crate) type Line = Text<65536>;
 
-// A refusal, of a call that is lent no bytes.
-pub(crate) fn refused(k: u64, values: &[u64; 3], out: &mut [u8]) -> usize {
-    let at = told(k, values, out);
-    end(out, at)
+// What a call refused: the number, and the three words that it was lent.
+#[derive(Clone, Copy)]
+pub(crate) struct Refusal {
+    number: u64,
+    values: [u64; 3],
 }
 
-pub(crate) fn number(k: u64, values: &[u64; 3], n: i32, out: &mut [u8]) -> usize {
-    if k != 0 {
-        return refused(k, values, out);
+// As many values as that refusal has.
+impl Display for Refusal {
+    fn fmt<W: fmt::Write>(&self, f: &mut fmt::Formatter<W>) -> fmt::Result {
+        write!(f, "{}", self.number)?;
+        let count = abi_error::mvd_value_count(self.number);
+        for value in self.values.iter().take(count) {
+            write!(f, " {value}")?;
+        }
+        Ok(())
     }
-    let at = decimal(0, out, 0);
-    let at = signed(n, out, at);
-    end(out, at)
 }
 
-pub(crate) fn count(k: u64, values: &[u64; 3], n: u64, out: &mut [u8]) -> usize {
-    if k != 0 {
-        return refused(k, values, out);
+// A float, shown by its bits: every NaN as one.
+#[derive(Clone, Copy)]
+pub(crate) struct Float(pub(crate) f64);
+
+impl Display for Float {
+    fn fmt<W: fmt::Write>(&self, f: &mut fmt::Formatter<W>) -> fmt::Result {
+        write!(f, "{:016x}", float40_write::bits_of(self.0))
     }
-    let at = decimal(0, out, 0);
-    let at = whole(n, out, at);
-    end(out, at)
 }
 
-pub(crate) fn figure(k: u64, values: &[u64; 3], x: f64, out: &mut [u8]) -> usize {
-    if k != 0 {
-        return refused(k, values, out);
+// A call that is lent the three words for a refusal's values.
+pub(crate) fn ask<F: FnOnce(&mut [u64; 3]) -> u64>(call: F) -> Result<(), Refusal>
+    requires { F.IsAlwaysCallable call }
+{
+    let mut values = [0; 3];
+    let number = call(&mut values);
+    if number == 0 {
+        Ok(())
+    } else {
+        Err(Refusal { number, values })
     }
-    let at = decimal(0, out, 0);
-    let at = float(x, out, at);
-    end(out, at)
 }
 
-pub(crate) fn record(
-    k: u64,
-    values: &[u64; 3],
-    wholes: &[i32],
-    figures: &[f64],
-    out: &mut [u8],
-) -> usize {
-    if k != 0 {
-        return refused(k, values, out);
+// A call that is lent a place for its value too.
+pub(crate) fn read<T: Copy, F: FnOnce(&mut T, &mut [u64; 3]) -> u64>(
+    zero: T,
+    call: F,
+) -> Result<T, Refusal>
+    requires { F.IsAlwaysCallable call }
+{
+    let mut value = zero;
+    ask(|values| call(&mut value, values))?;
+    Ok(value)
+}
+
+// A call that is lent two places.
+pub(crate) fn read_two<A: Copy, B: Copy, F: FnOnce(&mut A, &mut B, &mut [u64; 3]) -> u64>(
+    zeros: (A, B),
+    call: F,
+) -> Result<(A, B), Refusal>
+    requires { F.IsAlwaysCallable call }
+{
+    let (mut a, mut b) = zeros;
+    ask(|values| call(&mut a, &mut b, values))?;
+    Ok((a, b))
+}
+
+// ---- whole lines
+
+// One value.
+pub(crate) fn one<D: Display + Drop>(line: &mut Line, value: D) {
+    line.put(format_args!("0 {value} :\n"));
+}
+
+// The lent bytes, refused or not.
+pub(crate) fn lent(line: &mut Line, reply: Result<(), Refusal>, buf: &[u8]) {
+    match reply {
+        Ok(()) => line.put("0"),
+        Err(refusal) => line.put(refusal),
     }
-    let at = decimal(0, out, 0);
-    let at = signs(wholes, out, at);
-    let at = floats(figures, out, at);
-    end(out, at)
+    bytes(line, buf);
 }
 
-// A length, where nothing was refused, and the lent bytes.
-pub(crate) fn filled(k: u64, values: &[u64; 3], n: usize, buf: &[u8], out: &mut [u8]) -> usize {
-    if k != 0 {
-        return lent(k, values, buf, out);
+// The lent bytes, and how many of them were filled.
+pub(crate) fn filled(line: &mut Line, reply: Result<usize, Refusal>, buf: &[u8]) {
+    match reply {
+        Ok(len) => line.put(format_args!("0 {len}")),
+        Err(refusal) => line.put(refusal),
     }
-    let at = decimal(0, out, 0);
-    let at = whole(n as u64, out, at);
-    bytes(buf, out, at)
-}
-
-pub(crate) fn lent(k: u64, values: &[u64; 3], buf: &[u8], out: &mut [u8]) -> usize {
-    let at = told(k, values, out);
-    bytes(buf, out, at)
+    bytes(line, buf);
 }
 
 // ---- the parts of a line
 
-// The number that a call answered, and as many values as that refusal has.
-pub(crate) fn told(k: u64, values: &[u64; 3], out: &mut [u8]) -> usize {
-    let at = decimal(k, out, 0);
-    wholes(values, abi_error::mvd_value_count(k), out, at)
-}
-
-pub(crate) fn whole(n: u64, out: &mut [u8], at: usize) -> usize {
-    let at = text(b" ", out, at);
-    decimal(n, out, at)
-}
-
-pub(crate) fn signed(n: i32, out: &mut [u8], at: usize) -> usize {
-    let bits = integer_write::bits_of(n);
-    if n < 0 {
-        let at = text(b" -", out, at);
-        decimal(std::num::wrapping_sub_u32(0, bits) as u64, out, at)
-    } else {
-        whole(bits as u64, out, at)
+// Each item as `shown` shows it.
+pub(crate) fn each<T: Copy, D: Display + Drop, F: Fn(T) -> D>(
+    line: &mut Line,
+    items: &[T],
+    shown: F,
+)
+    requires { F.IsAlwaysCallable shown }
+{
+    for &item in items {
+        line.put(format_args!(" {}", shown(item)));
     }
 }
 
-pub(crate) fn float(x: f64, out: &mut [u8], at: usize) -> usize {
-    let mut digits = [0u8; 16];
-    let k = io::hex(float40_write::bits_of(x), 16, &mut digits);
-    let at = text(b" ", out, at);
-    text(&digits[..k], out, at)
-}
-
-// The first n numbers, or all.
-pub(crate) fn wholes(ns: &[u64], n: usize, out: &mut [u8], at: usize) -> usize {
-    let mut to = at;
-    let mut i = 0;
-    while i < ns.len() {
-        if n <= i {
-            break;
-        }
-        to = whole(ns[i], out, to);
-        i += 1;
+pub(crate) fn hex(line: &mut Line, bytes: &[u8]) {
+    for &byte in bytes {
+        line.put(format_args!("{byte:02x}"));
     }
-    to
-}
-
-pub(crate) fn signs(ns: &[i32], out: &mut [u8], at: usize) -> usize {
-    let mut to = at;
-    let mut i = 0;
-    while i < ns.len() {
-        to = signed(ns[i], out, to);
-        i += 1;
-    }
-    to
-}
-
-pub(crate) fn floats(xs: &[f64], out: &mut [u8], at: usize) -> usize {
-    let mut to = at;
-    let mut i = 0;
-    while i < xs.len() {
-        to = float(xs[i], out, to);
-        i += 1;
-    }
-    to
-}
-
-pub(crate) fn hex(bytes: &[u8], out: &mut [u8], at: usize) -> usize {
-    let mut to = at;
-    let mut i = 0;
-    while i < bytes.len() {
-        to = pair(bytes[i], out, to);
-        i += 1;
-    }
-    to
-}
-
-// The bytes, and the line's end.
-pub(crate) fn bytes(bytes: &[u8], out: &mut [u8], at: usize) -> usize {
-    let at = text(b" :", out, at);
-    let at = hex(bytes, out, at);
-    text(b"\n", out, at)
 }
 
 // The end of a line without bytes.
-pub(crate) fn end(out: &mut [u8], at: usize) -> usize {
-    text(b" :\n", out, at)
+pub(crate) fn end(line: &mut Line) {
+    line.put(" :\n");
 }
 
-pub(crate) fn decimal(n: u64, out: &mut [u8], at: usize) -> usize {
-    let mut digits = [0u8; 20];
-    let k = io::decimal(n, &mut digits);
-    text(&digits[..k], out, at)
-}
-
-// As much of a text as the buffer has room for; no line of a case within the program's limits is longer.
-pub(crate) fn text(bytes: &[u8], out: &mut [u8], at: usize) -> usize {
-    let mut to = at;
-    let mut i = 0;
-    while i < bytes.len() {
-        if out.len() <= to {
-            break;
-        }
-        out[to] = bytes[i];
-        to += 1;
-        i += 1;
-    }
-    to
-}
-
-fn pair(byte: u8, out: &mut [u8], at: usize) -> usize {
-    let mut digits = [0u8; 16];
-    let k = io::hex(byte as u64, 2, &mut digits);
-    text(&digits[..k], out, at)
+// The bytes, and the line's end.
+pub(crate) fn bytes(line: &mut Line, bytes: &[u8]) {
+    line.put(" :");
+    hex(line, bytes);
+    line.put("\n");
 }

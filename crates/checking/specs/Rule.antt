@@ -1,15 +1,13 @@
 -- Document 01, 'Frames': what a wire is tested for, in the order given there, and what it carries.
 -- A refusal is its number and values; `head_of` is what is answered of a wire that passes.
 use Rattle.std.specs.Prelude.{ℕ, ◌+◌, ◌-◌, ◌*◌, cond, not, List, [], ◌∷◌, eqb, ltb, length, get_or, take, drop}
-use Rattle.error.specs.Refusal.{Told, yes, no, refused, and_then}
+use Rattle.error.specs.Refusal.{Told, yes, no, and_then}
 use Rattle.addr.specs.declared.BusAddr.{BusAddr}
 use Rattle.addr.specs.Address.{address_rule}
 use Rattle.stuffing.specs.Stuff.{sum16}
 use Rattle.unstuffing.specs.Unstuff.{unstuff, byte_at, offset_at, unit_bytes}
 use Rattle.encoding.specs.Wire.{Fields, fields}
 use Rattle.checking.specs.declared.Head.{Head}
-use Rattle.checking.specs.declared.ResultHead.{ResultHead}
-use Rattle.checking.specs.declared.ResultHead.TheVariants.{Ok, Err}
 
 -- what stands between the first and the last byte
 abbrev pub interior : List ℕ → List ℕ
@@ -67,7 +65,3 @@ units_of (no k vs) = []
 
 abbrev pub head_of : List ℕ → Fields → Head
 head_of wire f = head_at (units_of (unstuff 0 (interior wire))) f
-
-abbrev pub told_head : ResultHead → Told Head
-told_head (Ok r) = yes r
-told_head (Err e) = refused e

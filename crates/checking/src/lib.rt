@@ -4,19 +4,21 @@
 
 ghost use Rattle.std.specs.Prelude.{◌≡◌, ◌+◌, ◌-◌, ◌*◌, ◌<◌, ◌≤◌, length, drop, get_or};
 ghost use Rattle.error.specs.Refusal.{on_yes, and_then};
+ghost use Rattle.error.specs.Result.{told};
 ghost use Rattle.unstuffing.specs.Unstuff.{unstuff};
 ghost use Rattle.unstuffing.specs.Escapes.{Proper};
 ghost use Rattle.unstuffing.specs.Private.{kept, width_of, value_of};
-ghost use Rattle.checking.specs.Rule.{sum_rule, units_rule, check_rule, head_at, head_of, told_head};
+ghost use Rattle.checking.specs.Rule.{sum_rule, units_rule, check_rule, head_at, head_of};
 ghost use Rattle.checking.specs.Private.{Ends, front_rule};
 
-use addr::{BusAddr, ResultBusAddr};
-use error::{ResultUsize, WireError};
+use addr::BusAddr;
+use error::WireError;
 use marks::{END, ESC, START};
 use stuffing::{checksum, select, unescape};
 use unstuffing::unstuffed;
 
-// A wire's header, its payload's length, and the two places of the wire between which the payload's stuffed bytes stand.
+// A wire's header, its payload's length, and the two places of the wire between which the payload's stuffed bytes stand: places and not
+// the part itself, as specs/Rule and proofs/Located speak of them.
 #[derive(Drop)]
 pub struct Head {
     pub dest: BusAddr,
@@ -27,32 +29,26 @@ pub struct Head {
     pub to: usize,
 }
 
-#[derive(Drop)]
-pub enum ResultHead {
-    Ok(Head),
-    Err(WireError),
-}
-
 // The header of a wire, and where its payload lies, or the first test that it fails.
-pub fn check(wire: &[u8]) -> ResultHead
-    ensures { told_head result ≡ on_yes (head_of wire.now) (check_rule wire.now) }
+pub fn check(wire: &[u8]) -> Result<Head, WireError>
+    ensures { told result ≡ on_yes (head_of wire.now) (check_rule wire.now) }
 {
     let n = wire.len();
     if n < 7 {
-        return ResultHead::Err(WireError::FrameTooShort { len: n });
+        return Err(WireError::FrameTooShort { len: n });
     }
     let first = wire[0];
     if first != START {
-        return ResultHead::Err(WireError::MissingStart { got: first });
+        return Err(WireError::MissingStart { got: first });
     }
     let end = n - 1;
     if wire[end] != END {
-        return ResultHead::Err(WireError::MissingEnd);
+        return Err(WireError::MissingEnd);
     }
     check_interior(&wire[1..end], n)
 }
 
-// ---- finding the way in a proper string
+// ---- finding the way in a proper string: what is asked of it stands at each function, for these are parts, cut anew for each call
 
 // The unstuffed byte at a place, and the place after it.
 fn value(s: &[u8], i: usize) -> u8
@@ -99,62 +95,49 @@ fn received(s: &[u8], at: usize) -> u16
 {
     let high = value(s, at);
     let low = value(s, next(s, at));
-    (high as u16) * 256 + low as u16
+    u16::from_be_bytes([high, low])
 }
 
 // What precedes the checksum: in the wire it starts at 1.
-fn check_head(body: &[u8], len: usize) -> ResultHead
+fn check_head(body: &[u8], len: usize) -> Result<Head, WireError>
     requires { (Proper body.now) × (3 ≤ kept body.now) }
-    ensures { told_head result ≡ and_then (unstuff 0 body.now) (front_rule len (length body.now)) }
+    ensures { told result ≡ and_then (unstuff 0 body.now) (front_rule len (length body.now)) }
 {
     let src_at = next(body, 0);
     let type_at = next(body, src_at);
     let from = next(body, type_at) + 1;
-    let d = BusAddr::from_byte(value(body, 0));
-    let s = BusAddr::from_byte(value(body, src_at));
-    let type_id = value(body, type_at);
-    match d {
-        ResultBusAddr::Err(e) => ResultHead::Err(e),
-        ResultBusAddr::Ok(dest) => match s {
-            ResultBusAddr::Err(e) => ResultHead::Err(e),
-            ResultBusAddr::Ok(src) => ResultHead::Ok(Head {
-                dest,
-                src,
-                type_id,
-                len,
-                from,
-                to: body.len() + 1,
-            }),
-        },
-    }
+    let dest = BusAddr::from_byte(value(body, 0))?;
+    let src = BusAddr::from_byte(value(body, src_at))?;
+    Ok(Head {
+        dest,
+        src,
+        type_id: value(body, type_at),
+        len,
+        from,
+        to: body.len() + 1,
+    })
 }
 
-fn check_sum(s: &[u8], n: usize) -> ResultHead
+fn check_sum(s: &[u8], n: usize) -> Result<Head, WireError>
     requires { (Proper s.now) × (n ≡ kept s.now) × (5 ≤ n) }
-    ensures { told_head result ≡ and_then (unstuff 0 s.now) (λ us. on_yes (head_at us) (sum_rule s.now us)) }
+    ensures { told result ≡ and_then (unstuff 0 s.now) (λ us. on_yes (head_at us) (sum_rule s.now us)) }
 {
     let at = checksum_at(s);
     let expected = received(s, at);
     let body = &s[..at];
     let computed = checksum(body);
     if expected != computed {
-        return ResultHead::Err(WireError::ChecksumMismatch { expected, computed });
+        return Err(WireError::ChecksumMismatch { expected, computed });
     }
     check_head(body, n - 5)
 }
 
-fn check_interior(s: &[u8], whole: usize) -> ResultHead
-    ensures { told_head result ≡ and_then (unstuff 0 s.now) (λ us. on_yes (head_at us) (units_rule whole s.now us)) }
+fn check_interior(s: &[u8], whole: usize) -> Result<Head, WireError>
+    ensures { told result ≡ and_then (unstuff 0 s.now) (λ us. on_yes (head_at us) (units_rule whole s.now us)) }
 {
-    let counted = unstuffed(s);
-    match counted {
-        ResultUsize::Err(e) => ResultHead::Err(e),
-        ResultUsize::Ok(n) => {
-            if n < 5 {
-                ResultHead::Err(WireError::FrameTooShort { len: whole })
-            } else {
-                check_sum(s, n)
-            }
-        }
+    let n = unstuffed(s)?;
+    if n < 5 {
+        return Err(WireError::FrameTooShort { len: whole });
     }
+    check_sum(s, n)
 }

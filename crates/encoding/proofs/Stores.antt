@@ -1,6 +1,6 @@
 -- Runs of stores: from the front, of plain blocks one behind the other, and of a stuffed byte.
 -- `front` turns a run from the front into the buffer that `filled` tells.
-use Rattle.std.proofs.Common.{◌≡◌, ℕ, ◌+◌, ◌-◌, ◌≤◌, cond, eqb, leb, List, ◌++◌, length, take, drop, set, replicate, sym, ap, ◌∙◌, append_assoc, zero-add, add-one, arith, length-append, length-drop, length-take-le, take_at, take-add, drop_at, set-set, eq-eqb, ne_eqb, le-leb}
+use Rattle.std.proofs.Common.{◌≡◌, ℕ, ◌+◌, ◌-◌, ◌≤◌, cond, eqb, leb, List, ◌++◌, length, take, drop, set, sym, ap, ◌∙◌, append_assoc, zero-add, add-one, arith, length-append, length-take-le, take_at, take-add, drop_at, set-set, eq-eqb, ne_eqb, le-leb}
 use lib.Seq.{sets, sets-eq, length-sets}
 use Rattle.general.proofs.Cases.{by-eq}
 use Rattle.general.proofs.Stores.{sets-append}
@@ -32,12 +32,7 @@ read_again w old i n h e =
     ap (take n) y ∙ take_at w r n e
 
 -- plain bytes stored one behind the other: the first i of s, and the sixteen behind them
-module _ (s a : List ℕ) (i : ℕ) (some : i ≤ length s) (more : 16 ≤ length s - i) (is : a ≡ take 16 (take (i + 16 - i) (drop i s) ++ replicate 16 0)) where
-  sixteen : a ≡ take 16 (drop i s)
-  sixteen =
-      let n : i + 16 - i ≡ 16 = omega arith in
-      (rw n at is) ∙ take_at (take 16 (drop i s)) (replicate 16 0) 16 (length-take-le 16 (drop i s) (omega (arith, length-drop i s)))
-
+module _ (s a : List ℕ) (i : ℕ) (more : i + 16 ≤ length s) (sixteen : a ≡ take 16 (drop i s)) where
   pub plain-on : stuff (take i s) ≡ take i s → stuff a ≡ a → stuff (take (i + 16) s) ≡ take (i + 16) s
   plain-on p q = rw (take-add i 16 s, ← sixteen, stuff-append (take i s) a, p, q)
 
@@ -45,7 +40,7 @@ module _ (s a : List ℕ) (i : ℕ) (some : i ≤ length s) (more : 16 ≤ lengt
       → last ≡ cond (leb (at + i + 16) (length buf)) (sets buf (at + i) a) buf → last ≡ sets old at (take (i + 16) s)
   block_on old buf last at room b e =
       let fits : at + i + 16 ≤ length buf = omega (arith, ap length b, length-sets old at (take i s)) in
-      let n = sym (length-take-le i s some) in
+      let n = sym (length-take-le i s (omega arith)) in
       let f : last ≡ sets buf (at + i) a = e ∙ rw (le-leb (at + i + 16) (length buf) fits) in
       let g : sets buf (at + i) a ≡ sets (sets old at (take i s)) (at + length (take i s)) a = λ j. sets (b j) (at + n j) a in
       let h : take i s ++ a ≡ take (i + 16) s = rw (take-add i 16 s, ← sixteen) in

@@ -1,12 +1,13 @@
 -- A wire by its parts, as they are measured and as they are stored: the head, the payload, the checksum.
 -- The three parts together are the wire, in length and byte by byte.
-use Rattle.std.proofs.Common.{◌≡◌, ℕ, ◌+◌, ◌-◌, ◌*◌, ◌/◌, ◌%◌, ◌≤◌, List, [], ◌∷◌, ◌++◌, length, take, drop, set, sym, refl, ap, ◌∙◌, append_assoc, arith, length-append, length-set}
+use Rattle.std.proofs.Common.{◌≡◌, ℕ, ◌+◌, ◌-◌, ◌*◌, ◌/◌, ◌%◌, ◌<◌, ◌≤◌, List, [], ◌∷◌, ◌++◌, length, take, drop, set, sym, refl, ap, ◌∙◌, append_assoc, arith, length-append, length-set}
+use Rattle.std.specs.Int.{w16, to_be_bytes}
 use lib.Seq.{sets}
-use Rattle.addr.specs.Address.{byte_of}
 use Rattle.stuffing.specs.Stuff.{stuff, sum16}
 use Rattle.stuffing.proofs.Stuffing.{stuff-append, stuff-least, stuff-most}
 use Rattle.stuffing.proofs.Sums.{sum-append}
 use Rattle.encoding.specs.Wire.{Fields, body_of, checksum_of, wire_of}
+use Rattle.encoding.specs.Parts.{head_of}
 use Rattle.general.proofs.Stores.{sets-append}
 use Rattle.encoding.proofs.Stores.{read_again}
 
@@ -14,10 +15,14 @@ use Rattle.encoding.proofs.Stores.{read_again}
 pub tallied : (s : List ℕ) {more : ℕ} → more ≡ (length (stuff s) - length s) % 65536 → length s ≤ 65535 → more + length s ≡ length (stuff s)
 tallied s e h = omega (arith, stuff-least s, stuff-most s)
 
-module _ (f : Fields) (head : List ℕ) (is : head ≡ byte_of f.dest ∷ byte_of f.src ∷ f.type ∷ []) where
+-- a checksum as it is sent: its high byte, then its low one
+pub two-bytes : (n : ℕ) → n < 65536 → to_be_bytes w16 n ≡ n / 256 ∷ n % 256 ∷ []
+two-bytes n h = let e : n / 256 % 256 ≡ n / 256 = omega arith in rw e
+
+module _ (f : Fields) (head : List ℕ) (is : head ≡ head_of f) where
   body_is : body_of f ≡ stuff head ++ stuff f.payload
   unfolding body_of
-  body_is = rw is (stuff-append (byte_of f.dest ∷ byte_of f.src ∷ f.type ∷ []) f.payload)
+  body_is = rw is (stuff-append (head_of f) f.payload)
 
   checksum-is : checksum_of f ≡ (sum16 (stuff head) + sum16 (stuff f.payload)) % 65536
   unfolding checksum_of
@@ -86,6 +91,6 @@ module _ (f : Fields) (head : List ℕ) (is : head ≡ byte_of f.dest ∷ byte_o
 -- no wire is longer: each byte between the marks gets two
 pub wire-most : (f : Fields) → length (wire_of f) ≤ 2 * length f.payload + 12
 wire-most f =
-    let head : List ℕ = byte_of f.dest ∷ byte_of f.src ∷ f.type ∷ [] in
+    let head = head_of f in
     let tail : List ℕ = checksum_of f / 256 ∷ checksum_of f % 256 ∷ [] in
     omega (arith, wire-length f head refl (checksum_of f) refl, stuff-most head, stuff-most f.payload, stuff-most tail)

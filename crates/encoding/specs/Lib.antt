@@ -1,5 +1,6 @@
 -- What the contract of `encode` cites, and every crate that frames pass through.
--- Wire is the format, Encode the tests before it is written; a client may skip Private.
+-- Wire is the format, Encode the tests before it is written; a client may skip Parts and Private.
 pub mod Wire
 pub mod Encode
+pub mod Parts
 pub mod Private

@@ -6,14 +6,12 @@ ghost use Rattle.stuffing.specs.Stuff.{escape_of, stuff};
 use marks::{ESC, START};
 
 // 0 where a byte of the block has a code.
-pub(crate) fn least_rank(a: [u8; 16]) -> u8
-    ensures { 1 ≤ result → stuff a ≡ a }
+pub(crate) fn least_rank(block: &[u8; 16]) -> u8
+    ensures { 1 ≤ result → stuff block.now ≡ block.now }
 {
-    let mut least: u8 = 255;
-    let mut k = 0;
-    while k < 16 {
-        least = lesser(least, rank(a[k]));
-        k += 1;
+    let mut least = u8::MAX;
+    for &b in block {
+        least = least.min(rank(b));
     }
     least
 }
@@ -22,16 +20,6 @@ pub(crate) fn least_rank(a: [u8; 16]) -> u8
 fn rank(b: u8) -> u8
     ensures { 1 ≤ result → escape_of b ≡ 0 }
 {
-    let marker = std::num::wrapping_sub_u8(b, START) / 2;
-    let rest = lesser(
-        std::num::wrapping_sub_u8(b, 0xFA),
-        std::num::wrapping_sub_u8(b, ESC),
-    );
-    lesser(marker, rest)
-}
-
-fn lesser(a: u8, b: u8) -> u8
-    ensures { (result ≤ a) × (result ≤ b) }
-{
-    if a < b { a } else { b }
+    let marker = b.wrapping_sub(START) / 2;
+    marker.min(b.wrapping_sub(0xFA)).min(b.wrapping_sub(ESC))
 }

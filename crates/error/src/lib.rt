@@ -6,7 +6,8 @@ ghost use Rattle.std.specs.Prelude.{◌≡◌, ◌++◌, ◌-◌, length, get_or
 ghost use Rattle.error.specs.declared.WireError.TheVariants.{PayloadTooShort};
 ghost use Rattle.error.specs.Refusal.{number_of, values_of};
 
-#[derive(Clone, Copy)]
+// A kind is a number and no enum: whoever reads a payload names its own kind, and a narrower type would ask more of him.
+#[derive(Clone, Copy, Debug, PartialEq, Eq)]
 pub enum WireError {
     FrameTooShort { len: usize },
     MissingStart { got: u8 },
@@ -21,49 +22,6 @@ pub enum WireError {
     NoField { number: usize },
     CutEscape { offset: usize },
     CounterFull,
-}
-
-// What a call answers, for each type that one answers: the Rust's `Result<T>`.
-#[derive(Drop)]
-pub enum ResultUnit {
-    Ok,
-    Err(WireError),
-}
-
-#[derive(Drop)]
-pub enum ResultI16 {
-    Ok(i16),
-    Err(WireError),
-}
-
-#[derive(Drop)]
-pub enum ResultU16 {
-    Ok(u16),
-    Err(WireError),
-}
-
-#[derive(Drop)]
-pub enum ResultI32 {
-    Ok(i32),
-    Err(WireError),
-}
-
-#[derive(Drop)]
-pub enum ResultU32 {
-    Ok(u32),
-    Err(WireError),
-}
-
-#[derive(Drop)]
-pub enum ResultUsize {
-    Ok(usize),
-    Err(WireError),
-}
-
-#[derive(Drop)]
-pub enum ResultF64 {
-    Ok(f64),
-    Err(WireError),
 }
 
 impl WireError {
@@ -100,19 +58,11 @@ impl WireError {
         ensures { result ≡ length (values_of self) }
     {
         match self {
-            WireError::FrameTooShort { .. } => 1,
-            WireError::MissingStart { .. } => 1,
-            WireError::MissingEnd => 0,
+            WireError::MissingEnd | WireError::BadState | WireError::CounterFull => 0,
             WireError::InvalidEscape { .. } => 2,
-            WireError::ChecksumMismatch { .. } => 2,
-            WireError::UnknownBusAddr { .. } => 1,
+            WireError::ChecksumMismatch { .. } | WireError::NoRoom { .. } => 2,
             WireError::PayloadTooShort { .. } => 3,
-            WireError::NoRoom { .. } => 2,
-            WireError::BadState => 0,
-            WireError::PayloadTooLong { .. } => 1,
-            WireError::NoField { .. } => 1,
-            WireError::CutEscape { .. } => 1,
-            WireError::CounterFull => 0,
+            _ => 1,
         }
     }
 
@@ -120,11 +70,10 @@ impl WireError {
     pub fn value(self, i: usize) -> usize
         ensures { result ≡ get_or (values_of self) i 0 }
     {
-        let values = self.values();
-        if i < 3 { values[i] } else { 0 }
+        self.values().get(i).copied().unwrap_or(0)
     }
 
-    // The values, and zeros behind them.
+    // The values, and zeros behind them, which `value` answers past the last.
     fn values(self) -> [usize; 3]
         ensures { result ≡ values_of self ++ replicate (3 - length (values_of self)) 0 }
     {

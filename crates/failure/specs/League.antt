@@ -5,11 +5,9 @@ use Rattle.std.specs.Float.{nan}
 use Rattle.std.specs.Float.Ieee.{is_nan, le, lt}
 use Rattle.std.specs.Int.Signed.{le_z, lt_z}
 use Rattle.general.specs.Number.{zero_float}
-use Rattle.error.specs.Refusal.{Told, yes, no, refused}
+use Rattle.error.specs.Refusal.{Told, yes, no}
 use Rattle.failure.specs.declared.LeagueRule.{LeagueRule}
 use Rattle.failure.specs.declared.LeagueRule.TheVariants.{Rule1, Rule2}
-use Rattle.failure.specs.declared.ResultLeagueRule.{ResultLeagueRule}
-use Rattle.failure.specs.declared.ResultLeagueRule.TheVariants.{Ok, Err}
 
 -- what each rule asks, given what 'at most zero' and 'below zero' mean of a figure
 unfoldable pub fails : {A : Type 0} → (A → Bool) → (A → Bool) → LeagueRule → A → A → A → Bool
@@ -57,7 +55,3 @@ raw_failed = fails (λ z. le_z z (pos 0)) (λ z. lt_z z (pos 0))
 -- 1 or 2; any other number is refused with 11 and itself
 unfoldable pub rule_numbered : ℕ → Told LeagueRule
 rule_numbered k = cond (eqb k 1) (yes Rule1) (cond (eqb k 2) (yes Rule2) (no 11 (k ∷ [])))
-
-abbrev pub told_league_rule : ResultLeagueRule → Told LeagueRule
-told_league_rule (Ok rule) = yes rule
-told_league_rule (Err e) = refused e

@@ -3,7 +3,8 @@
 #![tactic(auto)]
 
 ghost use Rattle.std.specs.Prelude.{◌≡◌};
-ghost use Rattle.failure.specs.League.{at_most_zero, below_zero, failed_by, rule_numbered, told_league_rule};
+ghost use Rattle.error.specs.Result.{told};
+ghost use Rattle.failure.specs.League.{at_most_zero, below_zero, failed_by, rule_numbered};
 
 use error::WireError;
 
@@ -16,25 +17,31 @@ pub enum LeagueRule {
     Rule2,
 }
 
-#[derive(Clone, Copy)]
-pub enum ResultLeagueRule {
-    Ok(LeagueRule),
-    Err(WireError),
-}
-
 impl LeagueRule {
     // Rule 1 or rule 2 by its number.
-    pub fn from_number(number: usize) -> ResultLeagueRule
-        ensures { told_league_rule result ≡ rule_numbered number }
+    #[tactic(auto, unfolding(crate::specs::League::rule_numbered))]
+    pub fn from_number(number: usize) -> Result<LeagueRule, WireError>
+        ensures { told result ≡ rule_numbered number }
     {
         match number {
-            1 => ResultLeagueRule::Ok(LeagueRule::Rule1),
-            2 => ResultLeagueRule::Ok(LeagueRule::Rule2),
-            _ => ResultLeagueRule::Err(WireError::NoField { number }),
+            1 => Ok(LeagueRule::Rule1),
+            2 => Ok(LeagueRule::Rule2),
+            _ => Err(WireError::NoField { number }),
         }
     }
 }
 
+impl TryFrom<usize> for LeagueRule {
+    type Error = WireError;
+
+    ghost try_from_gives = { λ number r. told r ≡ rule_numbered number };
+
+    fn try_from(number: usize) -> Result<LeagueRule, WireError> {
+        LeagueRule::from_number(number)
+    }
+}
+
+#[tactic(auto, unfolding(crate::specs::League::fails))]
 pub fn failed(rule: LeagueRule, speed: f64, flight_time: f64, carry: f64) -> bool
     ensures { result ≡ failed_by rule speed flight_time carry }
 {
@@ -44,15 +51,16 @@ pub fn failed(rule: LeagueRule, speed: f64, flight_time: f64, carry: f64) -> boo
     }
 }
 
+// No number, or at most zero.
 fn at_most_zero(v: f64) -> bool
     ensures { result ≡ at_most_zero v }
 {
-    below_zero(v) || v == 0.0
+    v.is_nan() || v <= 0.0
 }
 
-// A float that is not a number differs from itself.
+// No number, or below zero.
 fn below_zero(v: f64) -> bool
     ensures { result ≡ below_zero v }
 {
-    v != v || v < 0.0
+    v.is_nan() || v < 0.0
 }

@@ -7,18 +7,19 @@ use lib.IntN.{pos}
 use lib.ListN.{length, get_or}
 use borrow.Author.Tests.{lt-ltb, le-ltb}
 use Rattle.error.specs.Refusal.{Told, yes}
-use Rattle.layout.specs.Layout.{row}
+use Rattle.layout.specs.Layout.{row, told_decoded}
 use Rattle.numbers.specs.declared.Message.{Message}
 use Rattle.numbers.specs.declared.Message.TheVariants as message
 use Rattle.numbers.specs.Numbers.{shape_of, count_of, rule_of}
 use Rattle.numbers.specs.Asked.{Number, whole, shown_by, field_rule, number_at}
-use Rattle.flight.specs.declared.flight_result.ResultFlightResult.{ResultFlightResult}
-use Rattle.flight.specs.declared.flight_result_v1.ResultFlightResultV1.{ResultFlightResultV1}
-use Rattle.flight.specs.declared.club_result.ResultClubResult.{ResultClubResult}
+use Rattle.layout.specs.declared.Decoded.{Decoded}
+use Rattle.flight.specs.declared.flight_result.FlightResult.{FlightResult}
+use Rattle.flight.specs.declared.flight_result_v1.FlightResultV1.{FlightResultV1}
+use Rattle.flight.specs.declared.club_result.ClubResult.{ClubResult}
 use Rattle.flight.specs.Decoding.{Numbers, numbers_of, decode_rule}
-use Rattle.flight.specs.FlightResultFields.{flight_result, flight_result_numbers, told_flight_result}
-use Rattle.flight.specs.FlightResultV1Fields.{flight_result_v1, flight_result_v1_numbers, told_flight_result_v1}
-use Rattle.flight.specs.ClubResultFields.{club_result, club_result_numbers, told_club_result}
+use Rattle.flight.specs.FlightResultFields.{flight_result, flight_result_numbers}
+use Rattle.flight.specs.FlightResultV1Fields.{flight_result_v1, flight_result_v1_numbers}
+use Rattle.flight.specs.ClubResultFields.{club_result, club_result_numbers}
 use Rattle.flight.proofs.Row.{row_at}
 
 -- the numbers of a message, each whole or as a figure, by number
@@ -47,20 +48,20 @@ module _ (m : Message) (p : List ℕ) (l : (shape_of m).least ≤ length p) (n :
       ∙ row_at (count_of m) (numbered m (numbers_of m p)) (whole (pos 0)) n h))
 
 module _ (p : List ℕ) (n : ℕ) where
-  pub flight-result : (shape_of message.FlightResult).least ≤ length p → n < count_of message.FlightResult → (r : ResultFlightResult)
-      → told_flight_result r ≡ decode_rule message.FlightResult flight_result p
+  pub flight-result : (shape_of message.FlightResult).least ≤ length p → n < count_of message.FlightResult → (r : Decoded FlightResult)
+      → told_decoded r ≡ decode_rule message.FlightResult flight_result p
       → field_rule message.FlightResult p n ≡ yes (get_or (flight_result_numbers r.«record») n (whole (pos 0)))
   unfolding rule_of
-  flight-result l h r = by_number message.FlightResult p l n h flight_result flight_result_numbers (λ N. refl) (told_flight_result r)
+  flight-result l h r = by_number message.FlightResult p l n h flight_result flight_result_numbers (λ N. refl) (told_decoded r)
 
-  pub flight-result-v1 : (shape_of message.FlightResultV1).least ≤ length p → n < count_of message.FlightResultV1 → (r : ResultFlightResultV1)
-      → told_flight_result_v1 r ≡ decode_rule message.FlightResultV1 flight_result_v1 p
+  pub flight-result-v1 : (shape_of message.FlightResultV1).least ≤ length p → n < count_of message.FlightResultV1 → (r : Decoded FlightResultV1)
+      → told_decoded r ≡ decode_rule message.FlightResultV1 flight_result_v1 p
       → field_rule message.FlightResultV1 p n ≡ yes (get_or (flight_result_v1_numbers r.«record») n (whole (pos 0)))
   unfolding rule_of
-  flight-result-v1 l h r = by_number message.FlightResultV1 p l n h flight_result_v1 flight_result_v1_numbers (λ N. refl) (told_flight_result_v1 r)
+  flight-result-v1 l h r = by_number message.FlightResultV1 p l n h flight_result_v1 flight_result_v1_numbers (λ N. refl) (told_decoded r)
 
-  pub club-result : (shape_of message.ClubResult).least ≤ length p → n < count_of message.ClubResult → (r : ResultClubResult)
-      → told_club_result r ≡ decode_rule message.ClubResult club_result p
+  pub club-result : (shape_of message.ClubResult).least ≤ length p → n < count_of message.ClubResult → (r : Decoded ClubResult)
+      → told_decoded r ≡ decode_rule message.ClubResult club_result p
       → field_rule message.ClubResult p n ≡ yes (get_or (club_result_numbers r.«record») n (whole (pos 0)))
   unfolding rule_of
-  club-result l h r = by_number message.ClubResult p l n h club_result club_result_numbers (λ N. refl) (told_club_result r)
+  club-result l h r = by_number message.ClubResult p l n h club_result club_result_numbers (λ N. refl) (told_decoded r)

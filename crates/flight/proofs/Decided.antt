@@ -1,48 +1,25 @@
--- Decoding, decided by the length, and the numbers as they were read: one law for the three messages.
--- What is read by the list of divisors is the rule's (proofs/Ruled).
-use mathlib.Core.Path.{◌≡◌, ◌∙◌, ap}
+-- Decoding, decided by the length: one law for the three messages.
+-- What layout's decoder answers of a record is the rule of its message.
+use mathlib.Core.Path.{◌≡◌, refl, ◌∙◌}
+use mathlib.Core.Bool.{Bool, true, false, cond}
 use mathlib.Core.List.{List}
-use Prim.Native.Nat.{ℕ, ◌+◌, ◌<◌, ◌≤◌, ◌^◌}
-use lib.IntN.{ℤ}
-use lib.Ieee.{Float}
-use lib.ListN.{length, get_or, take, drop}
-use lib.Signed.{mag}
-use mir.Syntax.{w32}
-use mir.Val.{to_z, of_z, hbits}
-use borrow.Author.Tests.{lt-ltb, le-ltb}
-use Rattle.error.specs.Refusal.{yes, refused}
-use Rattle.error.specs.declared.WireError.{WireError}
-use Rattle.error.specs.declared.WireError.TheVariants.{PayloadTooShort}
-use Rattle.layout.specs.Layout.{answered}
-use Rattle.layout.proofs.Held.{held}
-use Rattle.layout.proofs.Parts.{int-part}
+use Prim.Native.Nat.{ℕ}
+use lib.Dec.{ltb}
+use lib.ListN.{length}
+use Rattle.error.specs.Result.{told}
+use Rattle.layout.specs.declared.Decoded.{Decoded}
+use Rattle.layout.specs.Layout.{answered, record_of, told_decoded}
 use Rattle.numbers.specs.declared.Message.{Message}
-use Rattle.numbers.specs.Numbers.{shape_of, whole_of, scale_of, scale_rule, float}
-use Rattle.numbers.proofs.Divisors.{divisors}
-use Rattle.flight.specs.Decoding.{Numbers, zeros, decode_rule}
-use Rattle.flight.specs.Private.{numbers_in, divided, figure_in}
-use Rattle.flight.proofs.Ruled.{figured, ruled}
+use Rattle.numbers.specs.Numbers.{shape_of}
+use Rattle.flight.specs.Decoding.{Numbers, numbers_of, zeros, decode_rule}
 
-module _ {A : Type 0} (m : Message) (fill : Numbers → A) (p : List ℕ) {r : A} where
-  pub short : {e : WireError} → length p < (shape_of m).least → e ≡ PayloadTooShort (shape_of m).kind (shape_of m).least (length p)
-      → r ≡ fill zeros → (refused e, r) ≡ decode_rule m fill p
-  unfolding decode_rule answered
-  short h e z = simp (lt-ltb (length p) (shape_of m).least h) (λ i. (refused (e i), z i))
+module _ {A : Type 0} (fill : Numbers → A) (N : Numbers) where
+  inside : (b : Bool) → cond b (fill zeros) (fill N) ≡ fill (cond b zeros N)
+  inside true = refl
+  inside false = refl
 
-  pub whole : (shape_of m).least ≤ length p → ((N : Numbers) → fill N ≡ fill (figured m N))
-      → {s : Float} → s ≡ scale_of m p → r ≡ fill (numbers_in m p divisors s) → (yes tt, r) ≡ decode_rule m fill p
-  unfolding decode_rule answered
-  whole h only x e =
-      let all = e ∙ (λ i. fill (numbers_in m p divisors (x i))) ∙ ruled m fill only p in
-      simp (le-ltb (length p) (shape_of m).least h) (λ i. (yes tt, all i))
-
--- the scale, of its number as it was read
-pub scale-is : (m : Message) (p : List ℕ) {z : ℤ} {s : Float} → z ≡ whole_of m p (shape_of m).scale → mag z < 2 ^ hbits w32
-    → s ≡ float (scale_rule m (to_z w32 (of_z w32 z))) → s ≡ scale_of m p
-unfolding scale_of
-scale-is m p z h e = e ∙ ap (λ (y : ℤ). float (scale_rule m y)) (held w32 z h)
-
--- a figure of a part is the whole's, further on
-pub figure-part : (p : List ℕ) (n at : ℕ) (by : List ℕ) (s : Float) (j k : ℕ) (r : Float) → j + 3 ≤ n
-    → r ≡ figure_in (take n (drop at p)) by s j k → r ≡ figure_in p by s (at + j) k
-figure-part p n at by s j k r h e = e ∙ ap (divided (get_or by k 0) s) (int-part p n at 3 j h)
+module _ {A : Type 0} (m : Message) (fill : Numbers → A) (p : List ℕ) where
+  pub by_rule : (d : Decoded A) → told d.result ≡ answered (shape_of m).kind (shape_of m).least p
+      → d.«record» ≡ record_of (shape_of m).least (λ p. fill (numbers_of m p)) (fill zeros) p → told_decoded d ≡ decode_rule m fill p
+  unfolding decode_rule record_of
+  by_rule d e f = let g = f ∙ inside fill (numbers_of m p) (ltb (length p) (shape_of m).least) in λ i. (e i, g i)

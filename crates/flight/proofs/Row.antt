@@ -1,4 +1,4 @@
--- A list that is filled from the front, three values a turn, is a row in the end.
+-- A list that is filled from the front, one value a turn or three, is a row in the end.
 -- `Filled` is how far it has come; what stands behind that is not asked.
 use Prim.Native.Nat.{ℕ, zero, suc, ◌+◌, ◌<◌}
 use mathlib.Core.Path.{◌≡◌, refl, sym, ◌∙◌, ap}
@@ -8,6 +8,15 @@ use lib.ListN.{length, get_or, set, replicate, length-set, length-replicate}
 use lib.Seq.{ext_get_or}
 use Rattle.general.proofs.Stores.{front-more}
 use Rattle.layout.specs.Layout.{row}
+
+row-length : {A : Type 0} (k : ℕ) (f : ℕ → A) → length (row k f) ≡ k
+row-length zero f = refl
+row-length (suc k) f = ap suc (row-length k (λ j. f (suc j)))
+
+pub row_at : {A : Type 0} (k : ℕ) (f : ℕ → A) (d : A) (j : ℕ) → j < k → get_or (row k f) j d ≡ f j
+row_at zero f d j h = absurd (let q : ⊥ = omega arith in q)
+row_at (suc k) f d zero h = refl
+row_at (suc k) f d (suc j) h = row_at k (λ i. f (suc i)) d j (omega arith)
 
 module _ {A : Type 0} (f : ℕ → A) (d : A) where
   -- the first n of k places hold f's values
@@ -21,7 +30,7 @@ module _ {A : Type 0} (f : ℕ → A) (d : A) where
     front = λ j h. absurd (let q : ⊥ = omega arith in q);
   }
 
-  filled_more : {k n : ℕ} {xs : List A} {v : A} → Filled k n xs → n < k → v ≡ f n → Filled k (n + 1) (set xs n v)
+  pub filled_more : {k n : ℕ} {xs : List A} {v : A} → Filled k n xs → n < k → v ≡ f n → Filled k (n + 1) (set xs n v)
   filled_more {k} {n} {xs} {v} w h e = record {
     long = length-set xs n v ∙ w.long;
     front = front-more f d xs n (rw w.long h) e w.front;
@@ -36,15 +45,6 @@ module _ {A : Type 0} (f : ℕ → A) (d : A) where
       let again : Filled k (n + 2) (set (set xs n u) (n + 1) v) = rw two at more in
       let all : Filled k (n + 2 + 1) (set (set (set xs n u) (n + 1) v) (n + 2) w) = filled_more again h r in
       rw three at all
-
-row-length : {A : Type 0} (k : ℕ) (f : ℕ → A) → length (row k f) ≡ k
-row-length zero f = refl
-row-length (suc k) f = ap suc (row-length k (λ j. f (suc j)))
-
-pub row_at : {A : Type 0} (k : ℕ) (f : ℕ → A) (d : A) (j : ℕ) → j < k → get_or (row k f) j d ≡ f j
-row_at zero f d j h = absurd (let q : ⊥ = omega arith in q)
-row_at (suc k) f d zero h = refl
-row_at (suc k) f d (suc j) h = row_at k (λ i. f (suc i)) d j (omega arith)
 
 pub filled_is : {A : Type 0} (f : ℕ → A) (d : A) {k : ℕ} {xs : List A} → Filled f d k k xs → xs ≡ row k f
 filled_is f d {k} {xs} w =

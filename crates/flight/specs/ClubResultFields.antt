@@ -1,11 +1,8 @@
 -- Document 01, 'Messages': the fields of ED, each under the source's name with its number.
--- `club_result` fills the record; `club_result_numbers` lists it again by number; `told_club_result` is what a reply tells.
+-- `club_result` fills the record; `club_result_numbers` lists it again by number.
 use Rattle.std.specs.Prelude.{List, [], ◌∷◌, ◌++◌, map}
-use Rattle.error.specs.Refusal.{Told}
-use Rattle.error.specs.Result.{told_unit}
 use Rattle.numbers.specs.Asked.{Number, whole, figure}
 use Rattle.flight.specs.declared.club_result.ClubResult.{ClubResult}
-use Rattle.flight.specs.declared.club_result.ResultClubResult.{ResultClubResult}
 use Rattle.flight.specs.Decoding.{Numbers, run}
 
 abbrev pub club_result : Numbers → ClubResult
@@ -43,6 +40,3 @@ club_result_numbers r =
     figure r.club_height ∷ whole r.poly_scale ∷ map figure r.poly_coeffs ++
     figure r.pre_impact_time ∷ figure r.post_impact_time ∷ figure r.club_to_ball_time ∷
     []
-
-abbrev pub told_club_result : ResultClubResult → Told Unit × ClubResult
-told_club_result r = (told_unit r.result, r.«record»)

@@ -1,11 +1,8 @@
 -- Document 01, 'Messages': the fields of D4, each under the source's name with its number.
--- `flight_result` fills the record; `flight_result_numbers` lists it again by number; `told_flight_result` is what a reply tells.
+-- `flight_result` fills the record; `flight_result_numbers` lists it again by number.
 use Rattle.std.specs.Prelude.{List, [], ◌∷◌, ◌++◌, map}
-use Rattle.error.specs.Refusal.{Told}
-use Rattle.error.specs.Result.{told_unit}
 use Rattle.numbers.specs.Asked.{Number, whole, figure}
 use Rattle.flight.specs.declared.flight_result.FlightResult.{FlightResult}
-use Rattle.flight.specs.declared.flight_result.ResultFlightResult.{ResultFlightResult}
 use Rattle.flight.specs.Decoding.{Numbers, run}
 
 abbrev pub flight_result : Numbers → FlightResult
@@ -55,6 +52,3 @@ flight_result_numbers r =
     figure r.club_swing_plane_rotation ∷ figure r.club_effective_loft ∷ figure r.club_face_angle ∷
     whole r.poly_scale ∷ map figure r.poly_x ++ map figure r.poly_y ++ map figure r.poly_z ++
     []
-
-abbrev pub told_flight_result : ResultFlightResult → Told Unit × FlightResult
-told_flight_result r = (told_unit r.result, r.«record»)

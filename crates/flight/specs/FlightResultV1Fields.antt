@@ -1,11 +1,8 @@
 -- Document 01, 'Messages': the fields of E8, each under the source's name with its number.
--- `flight_result_v1` fills the record; `flight_result_v1_numbers` lists it again by number; `told_flight_result_v1` is what a reply tells.
+-- `flight_result_v1` fills the record; `flight_result_v1_numbers` lists it again by number.
 use Rattle.std.specs.Prelude.{List, [], ◌∷◌, ◌++◌, map}
-use Rattle.error.specs.Refusal.{Told}
-use Rattle.error.specs.Result.{told_unit}
 use Rattle.numbers.specs.Asked.{Number, whole, figure}
 use Rattle.flight.specs.declared.flight_result_v1.FlightResultV1.{FlightResultV1}
-use Rattle.flight.specs.declared.flight_result_v1.ResultFlightResultV1.{ResultFlightResultV1}
 use Rattle.flight.specs.Decoding.{Numbers, run}
 
 abbrev pub flight_result_v1 : Numbers → FlightResultV1
@@ -40,6 +37,3 @@ flight_result_v1_numbers r =
     whole r.sidespin_rpm ∷ figure r.acceleration ∷ figure r.club_strike_direction ∷
     whole r.poly_scale ∷ map figure r.poly_x ++ map figure r.poly_y ++ map figure r.poly_z ++
     []
-
-abbrev pub told_flight_result_v1 : ResultFlightResultV1 → Told Unit × FlightResultV1
-told_flight_result_v1 r = (told_unit r.result, r.«record»)

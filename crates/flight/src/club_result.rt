@@ -1,18 +1,19 @@
 // ClubResult (type ED): decoded whole, or refused with every number of the record zero.
 // Each field is the number of its name in specs/ClubResultFields.
-ghost use Rattle.std.specs.Prelude.{◌≡◌, ◌≤◌, length};
-ghost use Rattle.numbers.specs.Numbers.{shape_of};
-ghost use Rattle.flight.specs.Decoding.{decode_rule, zeros};
-ghost use Rattle.flight.specs.Private.{numbers_in};
-ghost use Rattle.flight.specs.ClubResultFields.{club_result, told_club_result};
+ghost use Rattle.std.specs.Prelude.{◌≡◌};
+ghost use Rattle.layout.specs.Layout.{told_decoded};
+ghost use Rattle.numbers.specs.declared.Message.TheVariants as message;
+ghost use Rattle.flight.specs.Decoding.{decode_rule, numbers_of, zeros};
+ghost use Rattle.flight.specs.ClubResultFields.{club_result};
+ghost use Rattle.flight.specs.Zeros.{club-zeros};
 
-use crate::figures::{figure_at, figures36};
-use error::{ResultUnit, WireError};
-use integer::{byte_at, int24_at};
-use numbers::{DIVISORS, ED, Message, scale};
+use crate::figures::Payload;
+use integer::byte_at;
+use layout::{Decoded, Record};
+use numbers::{ED, Message};
 
 // The club head at impact; the device sends it twice a shot. Turning left is positive.
-#[derive(Clone, Copy)]
+#[derive(Clone, Copy, Default)]
 pub struct ClubResult {
     // How many points the club was tracked at; EE has them
     pub num_club_prc_points: u8,
@@ -58,88 +59,57 @@ pub struct ClubResult {
     pub club_to_ball_time: f64,
 }
 
-// The reply, and the record beside it.
-#[derive(Drop)]
-pub struct ResultClubResult {
-    pub result: ResultUnit,
-    pub record: ClubResult,
+impl ClubResult {
+    pub fn decode(payload: &[u8]) -> Decoded<ClubResult>
+        ensures { told_decoded result ≡ decode_rule Message.ClubResult club_result payload.now }
+    {
+        layout::decode(payload)
+    }
 }
 
-impl ClubResult {
-    pub fn decode(payload: &[u8]) -> ResultClubResult
-        ensures { told_club_result result ≡ decode_rule Message.ClubResult club_result payload.now }
-    {
-        let got = payload.len();
-        if got < ED.least {
-            return ResultClubResult {
-                result: ResultUnit::Err(WireError::payload_too_short(ED.kind, ED.least, got)),
-                record: ClubResult::zero(),
-            };
-        }
-        let divisors = DIVISORS;
-        let scale = scale(Message::ClubResult, int24_at(payload, 47));
-        ResultClubResult {
-            result: ResultUnit::Ok,
-            record: ClubResult::of(payload, &divisors, scale),
-        }
-    }
+impl Record for ClubResult {
+    ghost KIND = { 0xED };
 
-    // The record of a payload that is long enough, by these divisors and this scale: place and entry stand as numbers.
-    fn of(payload: &[u8], divisors: &[u32; 138], scale: f64) -> ClubResult
-        requires { (shape_of Message.ClubResult).least ≤ length payload.now }
-        ensures { result ≡ club_result (numbers_in Message.ClubResult payload.now divisors.now scale) }
-    {
+    ghost LEAST = { 167 };
+
+    ghost filled = { λ p. club_result (numbers_of message.ClubResult p) };
+
+    ghost nothing = { club_result zeros };
+
+    const KIND: u8 = ED.kind;
+
+    const LEAST: usize = ED.least;
+
+    fn read(payload: &[u8]) -> ClubResult {
+        let p = Payload {
+            message: Message::ClubResult,
+            bytes: payload,
+            scale: Message::ClubResult.scale(payload),
+        };
         ClubResult {
             num_club_prc_points: byte_at(payload, 1),
-            flags: int24_at(payload, 2),
-            pre_club_speed: figure_at(payload, 5, divisors, 84, scale),
-            post_club_speed: figure_at(payload, 8, divisors, 85, scale),
-            strike_direction: figure_at(payload, 11, divisors, 86, scale),
-            attack_angle: figure_at(payload, 14, divisors, 87, scale),
-            face_angle: figure_at(payload, 17, divisors, 88, scale),
-            dynamic_loft: figure_at(payload, 20, divisors, 89, scale),
-            smash_factor: figure_at(payload, 23, divisors, 90, scale),
-            dispersion_correction: figure_at(payload, 26, divisors, 91, scale),
-            swing_plane_horizontal: figure_at(payload, 29, divisors, 92, scale),
-            swing_plane_vertical: figure_at(payload, 32, divisors, 93, scale),
-            club_azimuth: figure_at(payload, 35, divisors, 94, scale),
-            club_elevation: figure_at(payload, 38, divisors, 95, scale),
-            club_offset: figure_at(payload, 41, divisors, 96, scale),
-            club_height: figure_at(payload, 44, divisors, 97, scale),
-            poly_scale: int24_at(payload, 47),
-            poly_coeffs: figures36(payload, 50, divisors[99], scale),
-            pre_impact_time: figure_at(payload, 158, divisors, 135, scale),
-            post_impact_time: figure_at(payload, 161, divisors, 136, scale),
-            club_to_ball_time: figure_at(payload, 164, divisors, 137, scale),
+            flags: p.whole(0),
+            pre_club_speed: p.figure(1),
+            post_club_speed: p.figure(2),
+            strike_direction: p.figure(3),
+            attack_angle: p.figure(4),
+            face_angle: p.figure(5),
+            dynamic_loft: p.figure(6),
+            smash_factor: p.figure(7),
+            dispersion_correction: p.figure(8),
+            swing_plane_horizontal: p.figure(9),
+            swing_plane_vertical: p.figure(10),
+            club_azimuth: p.figure(11),
+            club_elevation: p.figure(12),
+            club_offset: p.figure(13),
+            club_height: p.figure(14),
+            poly_scale: p.whole(15),
+            poly_coeffs: p.coefficients(16),
+            pre_impact_time: p.figure(52),
+            post_impact_time: p.figure(53),
+            club_to_ball_time: p.figure(54),
         }
     }
 
-    // Every number zero.
-    fn zero() -> ClubResult
-        ensures { result ≡ club_result zeros }
-    {
-        ClubResult {
-            num_club_prc_points: 0,
-            flags: 0,
-            pre_club_speed: 0.0,
-            post_club_speed: 0.0,
-            strike_direction: 0.0,
-            attack_angle: 0.0,
-            face_angle: 0.0,
-            dynamic_loft: 0.0,
-            smash_factor: 0.0,
-            dispersion_correction: 0.0,
-            swing_plane_horizontal: 0.0,
-            swing_plane_vertical: 0.0,
-            club_azimuth: 0.0,
-            club_elevation: 0.0,
-            club_offset: 0.0,
-            club_height: 0.0,
-            poly_scale: 0,
-            poly_coeffs: [0.0; 36],
-            pre_impact_time: 0.0,
-            post_impact_time: 0.0,
-            club_to_ball_time: 0.0,
-        }
-    }
+    ghost default_is_nothing = { club-zeros };
 }

@@ -1,20 +1,20 @@
 // FlightResultV1 (type E8): decoded whole, or refused with every number of the record zero.
 // Each field is the number of its name in specs/FlightResultV1Fields.
-ghost use Rattle.std.specs.Prelude.{◌≡◌, ◌≤◌, length};
-ghost use Rattle.numbers.specs.Numbers.{shape_of};
-ghost use Rattle.flight.specs.Decoding.{decode_rule, zeros};
-ghost use Rattle.flight.specs.Private.{numbers_in};
-ghost use Rattle.flight.specs.FlightResultV1Fields.{flight_result_v1, told_flight_result_v1};
+ghost use Rattle.std.specs.Prelude.{◌≡◌};
+ghost use Rattle.layout.specs.Layout.{told_decoded};
+ghost use Rattle.numbers.specs.declared.Message.TheVariants as message;
+ghost use Rattle.flight.specs.Decoding.{decode_rule, numbers_of, zeros};
+ghost use Rattle.flight.specs.FlightResultV1Fields.{flight_result_v1};
 ghost use Rattle.flight.specs.Failure.{flight_v1_failed, no_read};
+ghost use Rattle.flight.specs.Zeros.{flight-v1-zeros};
 
-use crate::figures::{figure_at, figures5};
-use error::{ResultUnit, WireError};
+use crate::figures::Payload;
 use failure::{LeagueRule, failed};
-use integer::int24_at;
-use numbers::{DIVISORS, E8, Message, scale};
+use layout::{Decoded, Record};
+use numbers::{E8, Message};
 
 // What is known of the flight early, one message a shot, ahead of D4. Sideways and turning left is positive.
-#[derive(Clone, Copy)]
+#[derive(Clone, Copy, Default)]
 pub struct FlightResultV1 {
     // Counts the shots
     pub total: i32,
@@ -54,13 +54,6 @@ pub struct FlightResultV1 {
     pub poly_z: [f64; 5],
 }
 
-// The reply, and the record beside it.
-#[derive(Drop)]
-pub struct ResultFlightResultV1 {
-    pub result: ResultUnit,
-    pub record: FlightResultV1,
-}
-
 impl FlightResultV1 {
     // Whether the shot failed by a rule of the league.
     pub fn is_failed(self, rule: LeagueRule) -> bool
@@ -76,76 +69,54 @@ impl FlightResultV1 {
         self.is_failed(LeagueRule::Rule1)
     }
 
-    pub fn decode(payload: &[u8]) -> ResultFlightResultV1
-        ensures { told_flight_result_v1 result ≡ decode_rule Message.FlightResultV1 flight_result_v1 payload.now }
+    pub fn decode(payload: &[u8]) -> Decoded<FlightResultV1>
+        ensures { told_decoded result ≡ decode_rule Message.FlightResultV1 flight_result_v1 payload.now }
     {
-        let got = payload.len();
-        if got < E8.least {
-            return ResultFlightResultV1 {
-                result: ResultUnit::Err(WireError::payload_too_short(E8.kind, E8.least, got)),
-                record: FlightResultV1::zero(),
-            };
-        }
-        let divisors = DIVISORS;
-        let scale = scale(Message::FlightResultV1, int24_at(payload, 46));
-        ResultFlightResultV1 {
-            result: ResultUnit::Ok,
-            record: FlightResultV1::of(payload, &divisors, scale),
+        layout::decode(payload)
+    }
+}
+
+impl Record for FlightResultV1 {
+    ghost KIND = { 0xE8 };
+
+    ghost LEAST = { 94 };
+
+    ghost filled = { λ p. flight_result_v1 (numbers_of message.FlightResultV1 p) };
+
+    ghost nothing = { flight_result_v1 zeros };
+
+    const KIND: u8 = E8.kind;
+
+    const LEAST: usize = E8.least;
+
+    fn read(payload: &[u8]) -> FlightResultV1 {
+        let p = Payload {
+            message: Message::FlightResultV1,
+            bytes: payload,
+            scale: Message::FlightResultV1.scale(payload),
+        };
+        FlightResultV1 {
+            total: p.whole(0),
+            club_velocity: p.figure(1),
+            ball_velocity: p.figure(2),
+            flight_time: p.figure(3),
+            distance: p.figure(4),
+            height: p.figure(5),
+            lateral: p.figure(6),
+            elevation: p.figure(7),
+            azimuth: p.figure(8),
+            tracked_time: p.figure(9),
+            drag: p.figure(10),
+            backspin_rpm: p.whole(11),
+            sidespin_rpm: p.whole(12),
+            acceleration: p.figure(13),
+            club_strike_direction: p.figure(14),
+            poly_scale: p.whole(15),
+            poly_x: p.figures(16),
+            poly_y: p.figures(21),
+            poly_z: p.figures(26),
         }
     }
 
-    // The record of a payload that is long enough, by these divisors and this scale: place and entry stand as numbers.
-    fn of(payload: &[u8], divisors: &[u32; 138], scale: f64) -> FlightResultV1
-        requires { (shape_of Message.FlightResultV1).least ≤ length payload.now }
-        ensures { result ≡ flight_result_v1 (numbers_in Message.FlightResultV1 payload.now divisors.now scale) }
-    {
-        FlightResultV1 {
-            total: int24_at(payload, 1),
-            club_velocity: figure_at(payload, 4, divisors, 53, scale),
-            ball_velocity: figure_at(payload, 7, divisors, 54, scale),
-            flight_time: figure_at(payload, 10, divisors, 55, scale),
-            distance: figure_at(payload, 13, divisors, 56, scale),
-            height: figure_at(payload, 16, divisors, 57, scale),
-            lateral: figure_at(payload, 19, divisors, 58, scale),
-            elevation: figure_at(payload, 22, divisors, 59, scale),
-            azimuth: figure_at(payload, 25, divisors, 60, scale),
-            tracked_time: figure_at(payload, 28, divisors, 61, scale),
-            drag: figure_at(payload, 31, divisors, 62, scale),
-            backspin_rpm: int24_at(payload, 34),
-            sidespin_rpm: int24_at(payload, 37),
-            acceleration: figure_at(payload, 40, divisors, 65, scale),
-            club_strike_direction: figure_at(payload, 43, divisors, 66, scale),
-            poly_scale: int24_at(payload, 46),
-            poly_x: figures5(payload, 49, divisors, 68, scale),
-            poly_y: figures5(payload, 64, divisors, 73, scale),
-            poly_z: figures5(payload, 79, divisors, 78, scale),
-        }
-    }
-
-    // Every number zero.
-    fn zero() -> FlightResultV1
-        ensures { result ≡ flight_result_v1 zeros }
-    {
-        FlightResultV1 {
-            total: 0,
-            club_velocity: 0.0,
-            ball_velocity: 0.0,
-            flight_time: 0.0,
-            distance: 0.0,
-            height: 0.0,
-            lateral: 0.0,
-            elevation: 0.0,
-            azimuth: 0.0,
-            tracked_time: 0.0,
-            drag: 0.0,
-            backspin_rpm: 0,
-            sidespin_rpm: 0,
-            acceleration: 0.0,
-            club_strike_direction: 0.0,
-            poly_scale: 0,
-            poly_x: [0.0; 5],
-            poly_y: [0.0; 5],
-            poly_z: [0.0; 5],
-        }
-    }
+    ghost default_is_nothing = { flight-v1-zeros };
 }

@@ -4,6 +4,7 @@ pub mod Signed
 pub mod Pow2
 pub mod Over
 pub mod Value
+pub mod Sign
 pub mod Halves
 pub mod Leading
 pub mod Placed

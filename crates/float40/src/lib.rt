@@ -5,40 +5,40 @@
 mod bits;
 
 ghost use Rattle.std.specs.Prelude.{◌≡◌};
-ghost use Rattle.error.specs.Result.{told_f64};
+ghost use Rattle.error.specs.Result.{told};
 ghost use Rattle.integer.specs.Fields.{reading};
 ghost use Rattle.float40.specs.Float40.{value40, float40_at};
 
-use crate::bits::{magnitude, sign_bit, sign24, size24, value};
-use error::{ResultF64, WireError};
+use crate::bits::Mantissa;
+use error::WireError;
 
-pub fn read_float40(data: &[u8], offset: usize) -> ResultF64
-    ensures { told_f64 result ≡ reading 7 5 float40_at «data».now offset }
+pub fn read_float40(data: &[u8], offset: usize) -> Result<f64, WireError>
+    ensures { told result ≡ reading 7 5 float40_at «data».now offset }
 {
     let need = integer::need_at(offset, 5);
     let got = data.len();
     if got < need {
-        return ResultF64::Err(WireError::payload_too_short(7, need, got));
+        return Err(WireError::payload_too_short(7, need, got));
     }
     let end = offset + 5;
-    ResultF64::Ok(front(&data[offset..end]))
+    Ok(front(&data[offset..end]))
 }
 
 // The FLOAT40 at a place, where a byte past the end counts as 0: for callers that tested the length.
 pub fn float40_at(data: &[u8], offset: usize) -> f64
     ensures { result ≡ float40_at «data».now offset }
 {
-    if data.len() <= offset {
-        return 0.0;
+    match data.get(offset..) {
+        Some(part) => front(part),
+        None => 0.0,
     }
-    front(&data[offset..])
 }
 
 // The value of an exponent and a mantissa, as bits that whole numbers make: the wall controller has no float unit.
 pub fn float40_of(e: i16, m: i32) -> f64
     ensures { result ≡ value40 e m }
 {
-    value(e, sign_bit(m), magnitude(m))
+    Mantissa::of_number(m).value(e)
 }
 
 // The FLOAT40 at the front: of a part, so that the compiler drops the tests of a part that is long enough. The mantissa's own bits
@@ -48,5 +48,5 @@ fn front(data: &[u8]) -> f64
 {
     let e = integer::int16_at(data, 0);
     let m = integer::uint24_at(data, 2);
-    value(e, sign24(m), size24(m))
+    Mantissa::of_bits(m).value(e)
 }

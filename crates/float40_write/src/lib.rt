@@ -3,15 +3,15 @@
 #![tactic(auto)]
 
 ghost use Rattle.std.specs.Prelude.{◌≡◌, length};
-ghost use Rattle.error.specs.Result.{told_unit};
+ghost use Rattle.error.specs.Result.{told};
 ghost use Rattle.integer_write.specs.Writing.{writing, written};
 ghost use Rattle.float40_write.specs.Writing.{exp40, man40, bytes40, bits64};
 
-use error::{ResultUnit, WireError};
+use error::WireError;
 
 // The FLOAT40 of a float. A NaN, whose bits are not known, counts as 7FF8_0000_0000_0000.
-pub fn write_float40(buf: &mut [u8], offset: usize, value: f64) -> ResultUnit
-    ensures { (told_unit result ≡ writing (bytes40 (bits64 value)) buf.old offset)
+pub fn write_float40(buf: &mut [u8], offset: usize, value: f64) -> Result<(), WireError>
+    ensures { (told result ≡ writing (bytes40 (bits64 value)) buf.old offset)
         × (buf.new ≡ written (bytes40 (bits64 value)) buf.old offset) }
 {
     let bits = bits_of(value);
@@ -19,38 +19,38 @@ pub fn write_float40(buf: &mut [u8], offset: usize, value: f64) -> ResultUnit
 }
 
 // The FLOAT40 of a float's 64 bits, each NaN as its own.
-pub fn write_float40_bits(buf: &mut [u8], offset: usize, bits: u64) -> ResultUnit
-    ensures { (told_unit result ≡ writing (bytes40 bits) buf.old offset)
+pub fn write_float40_bits(buf: &mut [u8], offset: usize, bits: u64) -> Result<(), WireError>
+    ensures { (told result ≡ writing (bytes40 bits) buf.old offset)
         × (buf.new ≡ written (bytes40 bits) buf.old offset) }
 {
     let need = integer::need_at(offset, 5);
     let got = buf.len();
     if got < need {
-        return ResultUnit::Err(WireError::NoRoom { need, got });
+        return Err(WireError::NoRoom { need, got });
     }
     let end = offset + 5;
     lay(&mut buf[offset..end], bits);
-    ResultUnit::Ok
+    Ok(())
 }
 
 // The 64 bits of a float, every NaN as one.
 pub fn bits_of(value: f64) -> u64
     ensures { result ≡ bits64 value }
 {
-    if value != value {
+    if value.is_nan() {
         return 0x7FF8_0000_0000_0000;
     }
-    f64::to_bits(value)
+    value.to_bits()
 }
 
-// The five bytes, over a part of five.
+// The five bytes, over a part of five, which has room for both fields. Laid into the buffer: an array of five that is copied takes twice as long.
 fn lay(buf: &mut [u8], bits: u64)
     requires { length buf.old ≡ 5 }
     ensures { buf.new ≡ bytes40 bits }
 {
     let parts = parts_of(bits);
-    integer_write::write_int16(buf, 0, parts.exponent);
-    integer_write::write_int24(buf, 2, parts.mantissa);
+    let _ = integer_write::write_int16(buf, 0, parts.exponent);
+    let _ = integer_write::write_int24(buf, 2, parts.mantissa);
 }
 
 // e and m.
@@ -70,19 +70,10 @@ fn parts_of(bits: u64) -> Parts
             mantissa: 0,
         };
     }
-    let sign = bits >> 63;
     let ieee_exp = ((bits >> 52) & 0x7FF) as i16;
     let ieee_mant = bits & 0xF_FFFF_FFFF_FFFF;
     let mant_abs = (((1u64 << 52) + ieee_mant) >> 30) as i32;
     let exponent = ieee_exp - 1022;
-    if sign != 0 {
-        return Parts {
-            exponent,
-            mantissa: -mant_abs,
-        };
-    }
-    Parts {
-        exponent,
-        mantissa: mant_abs,
-    }
+    let mantissa = if bits >> 63 != 0 { -mant_abs } else { mant_abs };
+    Parts { exponent, mantissa }
 }

@@ -8,14 +8,14 @@ use lib.Dec.{eqb, ltb}
 use lib.ListN.{length}
 use Rattle.general.proofs.Cases.{by-test}
 use Rattle.error.specs.Refusal.{Told, no, on_yes, and_then}
-use Rattle.error.specs.Result.{told_usize}
 use Rattle.error.specs.Rust.{as_rust}
 use Rattle.error.proofs.Tells.{is_told, told-before, part-refused}
 use Rattle.error.proofs.Rust.{read-part, read-then}
+use Rattle.error.specs.Result.{told}
 use Rattle.checking.specs.Rust.{rust_parse}
 use Rattle.checking.proofs.Rust.{check-as-rust}
 use Rattle.frame.specs.Wire.{Fields}
-use Rattle.frame.specs.Rule.{check_rule, room_rule, parse_rule, header_of, open_rule, payload_told, copy_rule, told_raw_frame}
+use Rattle.frame.specs.Rule.{check_rule, room_rule, parse_rule, header_of, open_rule, payload_told, copy_rule}
 use Rattle.frame.proofs.RawFrame.open.Reads as opening
 use Rattle.frame.proofs.RawFrame.copy_payload.Reads as copying
 
@@ -28,13 +28,13 @@ unfolding parse_rule
 parse-as-rust w room =
     read-then (check_rule w) (room_rule room) (room-tells 12 refl room) ∙ ap (λ (t : Told Fields). and_then t (room_rule room)) (check-as-rust w)
 
-pub opened-as-rust : (κs a r x : _) → opening.Post κs a r x → as_rust (told_raw_frame r) ≡ on_yes header_of (rust_parse a.0.now)
+pub opened-as-rust : (κs a r x : _) → opening.Post κs a r x → as_rust (told r) ≡ on_yes header_of (rust_parse a.0.now)
 opened-as-rust κs a r x p =
     let w = a.0.now in
     ap as_rust p ∙ read-part header_of (check_rule w) ∙ ap (on_yes header_of) (check-as-rust w)
 
 pub copied-as-rust : (κs a r x : _) → copying.Post κs a r x
-    → as_rust (told_usize r) ≡ on_yes length (payload_told (and_then (rust_parse a.0.now) (room_rule (length a.1.0.now))))
+    → as_rust (told r) ≡ on_yes length (payload_told (and_then (rust_parse a.0.now) (room_rule (length a.1.0.now))))
 copied-as-rust κs a r x p =
     let room = length a.1.0.now in
     ap as_rust p.0

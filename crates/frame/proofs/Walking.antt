@@ -3,14 +3,15 @@
 use mathlib.Core.Path.{◌≡◌, refl, sym, ap, ◌∙◌}
 use mathlib.Core.Bool.{cond}
 use mathlib.Core.List.{List, [], ◌∷◌, ◌++◌, append_assoc}
-use Prim.Native.Nat.{ℕ, zero, suc, ◌+◌, ◌-◌, ◌≤◌, ◌<◌, zero-le}
+use Prim.Native.Nat.{ℕ, zero, suc, ◌+◌, ◌≤◌, ◌<◌, zero-le}
 use native.Mathlib.Nat.{le_refl, add-zero}
 use native.Mathlib.Numerals.{add-one}
 use native.Mathlib.Omega.{arith}
-use lib.Dec.{eqb, leb}
-use lib.ListN.{length, take, drop, get_or, set, length-append, length-take, length-drop, take-append-drop}
-use lib.Seq.{sets, sets-eq, length-take-le, take_all, get_or-drop, drop-drop, take_at, take-suc-set, take-set-le}
-use borrow.Author.Tests.{eq-eqb, ne_eqb, le-leb}
+use lib.Dec.{eqb}
+use lib.ListN.{length, take, drop, get_or, set, length-take, take-append-drop}
+use Rattle.std.proofs.lemmas.List.{get_or-take}
+use lib.Seq.{take_all, take-suc-set, take-set-le}
+use borrow.Author.Tests.{eq-eqb, ne_eqb}
 use Rattle.general.proofs.Cases.{by-test, by-eq}
 use Rattle.stuffing.specs.Stuff.{unescape_of}
 use Rattle.unstuffing.specs.Unstuff.{unit_bytes}
@@ -82,12 +83,6 @@ kept-slots (b ∷ a) = omega (arith, slots-step b a, kept-slots a)
 
 -- ---- stores
 
-pub take-sets : (l vs : List ℕ) (i : ℕ) → i + length vs ≤ length l → take (i + length vs) (sets l i vs) ≡ take i l ++ vs
-take-sets l vs i h =
-    ap (take (i + length vs)) (sets-eq vs l i h)
-    ∙ take_at (take i l ++ vs) (drop (i + length vs) l) (i + length vs)
-    (length-append (take i l) vs ∙ ap (λ (n : ℕ). n + length vs) (length-take-le i l (omega arith)))
-
 -- one byte of a walk: what is written, and what is to come
 pub walk-on : (buf l : List ℕ) (p b j v : ℕ) → v ≡ stands_for p b → j < length buf
     → take (j + cond (eqb b 0xFD) 0 1) (set buf j v) ++ raw b l ≡ take j buf ++ raw p (b ∷ l)
@@ -103,20 +98,11 @@ last-is p [] n h = absurd (let q : ⊥ = omega arith in q)
 last-is p (b ∷ l) zero h = refl
 last-is p (b ∷ l) (suc n) h = last-is b l n (omega arith)
 
-pub raw-part : (p : ℕ) (s : List ℕ) (i : ℕ) → i + 16 ≤ length s
-    → raw p (drop i s) ≡ raw p (take 16 (drop i s)) ++ raw (get_or s (i + 16 - 1) 0) (drop (i + 16) s)
-raw-part p s i h =
-    let l : last_of p (take 16 (drop i s)) ≡ get_or s (i + 16 - 1) 0 =
-    last-is p (drop i s) 15 (omega (arith, length-drop i s)) ∙ get_or-drop i s 15 0
-    ∙ ap (λ (k : ℕ). get_or s k 0) (let e : i + 15 ≡ i + 16 - 1 = omega arith in e) in
-    ap (raw p) (sym (take-append-drop 16 (drop i s))) ∙ raw-append p (take 16 (drop i s)) (drop 16 (drop i s)) ∙ rw (l, drop-drop 16 i s)
+pub raw-part : (p : ℕ) (l : List ℕ) → 16 ≤ length l → raw p l ≡ raw p (take 16 l) ++ raw (get_or (take 16 l) 15 0) (drop 16 l)
+raw-part p l h =
+    let last : last_of p (take 16 l) ≡ get_or (take 16 l) 15 0 = last-is p l 15 h ∙ sym (get_or-take 16 l 15 0 (omega arith)) in
+    ap (raw p) (sym (take-append-drop 16 l)) ∙ raw-append p (take 16 l) (drop 16 l) ∙ rw last
 
 -- a front that is as long as the whole is the whole
 pub take_whole : (r : ℕ) (l : List ℕ) → length (take r l) ≡ length l → take r l ≡ l
 take_whole r l e = take_all r l (omega (arith, length-take r l, e))
-
--- sixteen bytes without FD, stored as they stand
-pub block_walked : (s a buf last : List ℕ) (at p : ℕ) → length s ≡ 16 → a ≡ s → kept s ≡ 16 → (p ≡ 0xFD → ⊥) → at + 16 ≤ length buf
-    → last ≡ cond (leb (at + 16) (length buf)) (sets buf at a) buf → take (at + 16) last ≡ take at buf ++ raw p s
-block_walked s a buf last at p n e k h fits l =
-    rw (l, le-leb (at + 16) (length buf) fits, e, raw-plain p s h (k ∙ sym n), ← n) (take-sets buf s at (omega arith))

@@ -1,12 +1,10 @@
 -- Document 01, 'Frames', and request 9: what a wire opens to, and what is copied of it; the tests of a wire are `checking`'s and
 -- encoding's rule is `encoding`'s. A refusal is its number and values; a refused call writes nothing (`filled`).
 use Rattle.std.specs.Prelude.{ℕ, cond, List, [], ◌∷◌, ltb, length}
-use Rattle.error.specs.Refusal.{Told, yes, no, refused, on_yes, and_then}
+use Rattle.error.specs.Refusal.{Told, yes, no, on_yes, and_then}
 use Rattle.addr.specs.declared.BusAddr.{BusAddr}
 use Rattle.encoding.specs.Wire.{Fields}
 use Rattle.frame.specs.declared.RawFrame.{RawFrame}
-use Rattle.frame.specs.declared.ResultRawFrame.{ResultRawFrame}
-use Rattle.frame.specs.declared.ResultRawFrame.TheVariants.{Ok, Err}
 unfoldable pub use Rattle.encoding.specs.Encode.{encode_rule}
 pub use Rattle.checking.specs.Rule.{interior, received_of, computed_of, payload_of}
 unfoldable pub use Rattle.checking.specs.Rule.{addresses_rule, sum_rule, units_rule, check_rule}
@@ -43,7 +41,3 @@ payload_told t = on_yes (λ (f : Fields). f.payload) t
 -- "the other copies the payload of a wire into a lent buffer, making the same checks first"
 abbrev pub copy_rule : List ℕ → ℕ → Told (List ℕ)
 copy_rule wire room = payload_told (parse_rule wire room)
-
-abbrev pub told_raw_frame : ResultRawFrame → Told RawFrame
-told_raw_frame (Ok r) = yes r
-told_raw_frame (Err e) = refused e

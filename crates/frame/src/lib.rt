@@ -6,14 +6,14 @@ mod copying;
 
 ghost use Rattle.std.specs.Prelude.{◌≡◌, length};
 ghost use Rattle.error.specs.Refusal.{on_yes, filled};
-ghost use Rattle.error.specs.Result.{told_usize};
+ghost use Rattle.error.specs.Result.{told};
 ghost use Rattle.frame.specs.Wire.{fields};
-ghost use Rattle.frame.specs.Rule.{encode_rule, open_rule, copy_rule, told_raw_frame};
+ghost use Rattle.frame.specs.Rule.{encode_rule, open_rule, copy_rule};
 
 use crate::copying::copy;
 use addr::BusAddr;
-use checking::{ResultHead, check};
-use error::{ResultUsize, WireError};
+use checking::{Head, check};
+use error::WireError;
 
 // A frame's header, and the length of its payload.
 #[derive(Clone, Copy)]
@@ -24,12 +24,6 @@ pub struct RawFrame {
     pub len: usize,
 }
 
-#[derive(Clone, Copy)]
-pub enum ResultRawFrame {
-    Ok(RawFrame),
-    Err(WireError),
-}
-
 impl RawFrame {
     // The wire of a frame at the buffer's front, and its length.
     pub fn encode(
@@ -38,8 +32,8 @@ impl RawFrame {
         type_id: u8,
         payload: &[u8],
         wire: &mut [u8],
-    ) -> ResultUsize
-        ensures reply { told_usize result ≡ on_yes length (encode_rule (fields dest src type_id payload.now) (length wire.old)) }
+    ) -> Result<usize, WireError>
+        ensures reply { told result ≡ on_yes length (encode_rule (fields dest src type_id payload.now) (length wire.old)) }
         ensures bytes { wire.new
             ≡ filled (encode_rule (fields dest src type_id payload.now) (length wire.old)) wire.old }
     {
@@ -47,48 +41,33 @@ impl RawFrame {
     }
 
     // The header of a wire and its payload's length. Nothing is copied, so room is not asked for: it is never refused with 8.
-    pub fn open(wire: &[u8]) -> ResultRawFrame
-        ensures { told_raw_frame result ≡ open_rule wire.now }
+    pub fn open(wire: &[u8]) -> Result<RawFrame, WireError>
+        ensures { told result ≡ open_rule wire.now }
     {
-        let checked = check(wire);
-        match checked {
-            ResultHead::Err(e) => ResultRawFrame::Err(e),
-            ResultHead::Ok(head) => {
-                let dest = head.dest;
-                let src = head.src;
-                ResultRawFrame::Ok(RawFrame {
-                    dest,
-                    src,
-                    type_id: head.type_id,
-                    len: head.len,
-                })
-            }
-        }
+        let head = check(wire)?;
+        Ok(RawFrame {
+            dest: head.dest,
+            src: head.src,
+            type_id: head.type_id,
+            len: head.len,
+        })
     }
 
     // The payload of a wire at the buffer's front, and its length; the wire is checked as `open` checks it, and then the room.
     #[tactic(auto, using(crate::proofs::Parsed::told_room, crate::proofs::Parsed::told_cramped))]
-    pub fn copy_payload(wire: &[u8], buf: &mut [u8]) -> ResultUsize
-        ensures reply { told_usize result ≡ on_yes length (copy_rule wire.now (length buf.old)) }
+    pub fn copy_payload(wire: &[u8], buf: &mut [u8]) -> Result<usize, WireError>
+        ensures reply { told result ≡ on_yes length (copy_rule wire.now (length buf.old)) }
         ensures bytes { buf.new ≡ filled (copy_rule wire.now (length buf.old)) buf.old }
     {
-        let checked = check(wire);
-        match checked {
-            ResultHead::Err(e) => ResultUsize::Err(e),
-            ResultHead::Ok(head) => {
-                let len = head.len;
-                let room = buf.len();
-                if room < len {
-                    return ResultUsize::Err(WireError::NoRoom {
-                        need: len,
-                        got: room,
-                    });
-                }
-                let from = head.from;
-                let to = head.to;
-                copy(&wire[from..to], &mut buf[..len]);
-                ResultUsize::Ok(len)
-            }
+        let Head { len, from, to, .. } = check(wire)?;
+        let room = buf.len();
+        if room < len {
+            return Err(WireError::NoRoom {
+                need: len,
+                got: room,
+            });
         }
+        copy(&wire[from..to], &mut buf[..len]);
+        Ok(len)
     }
 }

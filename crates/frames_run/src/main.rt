@@ -2,8 +2,9 @@
 // Its example, a frame as long as the hold buffer and one longer, hold buffers of 1 and 0 bytes, each at once and then cut in two.
 #![tactic(auto)]
 
-use error::ResultUsize;
+use error::WireError;
 use session::Session;
+use splitter::FrameSplitter;
 
 fn main(rt: HostRuntime) {
     if program::alone(
@@ -36,47 +37,33 @@ fn examples(rt: &HostRuntime) -> bool {
 
 // A stream at once, then cut after its third byte.
 fn both(rt: &HostRuntime, hold: &mut [u8], stream: &[u8]) -> bool {
-    if 3 <= stream.len() {
-        if show(rt, hold, b"", stream) {
-            return show(rt, hold, &stream[0..3], &stream[3..]);
-        }
+    if stream.len() < 3 {
+        return false;
     }
-    false
+    let (first, second) = stream.split_at(3);
+    show(rt, hold, b"", stream) && show(rt, hold, first, second)
 }
 
 // The lines of a stream in two pieces, and the line at the end.
 fn show(rt: &HostRuntime, hold: &mut [u8], first: &[u8], second: &[u8]) -> bool {
-    let before = piece(rt, Session::new(), hold, first);
-    if !before.is_written {
-        return false;
-    }
-    let session = before.session;
-    let after = piece(rt, session, hold, second);
-    let session = after.session;
-    let splitter = session.splitter;
-    let mut lines = io::buffer();
+    let mut session = Session::new();
+    piece(rt, &mut session, hold, first)
+        && piece(rt, &mut session, hold, second)
+        && end(rt, session.splitter)
+}
+
+fn piece(rt: &HostRuntime, session: &mut Session, hold: &mut [u8], chunk: &[u8]) -> bool {
+    let mut lines = [0u8; 2048];
+    let reply = session.piece(hold, chunk, &mut lines);
+    print(rt, reply, &lines)
+}
+
+fn end(rt: &HostRuntime, splitter: FrameSplitter) -> bool {
+    let mut lines = [0u8; 128];
     let reply = report::end_line(splitter.count, splitter.skipping, &mut lines);
-    after.is_written && print(rt, reply, &lines)
+    print(rt, reply, &lines)
 }
 
-#[derive(Drop)]
-struct Shown {
-    session: Session,
-    is_written: bool,
-}
-
-fn piece(rt: &HostRuntime, session: Session, hold: &mut [u8], chunk: &[u8]) -> Shown {
-    let mut lines = io::large_buffer();
-    let ran = session.piece(hold, chunk, &mut lines);
-    let reply = ran.reply;
-    let session = ran.session;
-    let is_written = print(rt, reply, &lines);
-    Shown {
-        session,
-        is_written,
-    }
-}
-
-fn print(rt: &HostRuntime, reply: ResultUsize, lines: &[u8]) -> bool {
+fn print(rt: &HostRuntime, reply: Result<usize, WireError>, lines: &[u8]) -> bool {
     program::write(rt, b"frames_run", session::text_of(reply, lines))
 }

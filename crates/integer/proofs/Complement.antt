@@ -1,16 +1,17 @@
 -- Two's complement over w bits: the number that they stand for, by halves, and that it fits.
 -- `moved` is how `int_at` makes the number of fewer bits.
-use Prim.Native.Nat.{ℕ, zero, suc, ◌+◌, ◌-◌, ◌*◌, ◌/◌, ◌^◌, ◌<◌, ◌≤◌}
-use mathlib.Core.Path.{◌≡◌, refl, sym, ap, subst, ◌∙◌}
+use Prim.Native.Nat.{ℕ, suc, ◌+◌, ◌-◌, ◌*◌, ◌/◌, ◌^◌, ◌<◌, ◌≤◌}
+use mathlib.Core.Path.{◌≡◌, sym, ap, subst, ◌∙◌}
 use mathlib.Core.Bool.{Bool, cond}
 use native.Mathlib.Omega.{arith}
 use native.Mathlib.Nat.{pow-suc, add-mul, mul-le-mul_right, mul-lt-mul_of_pos_right, lt_of_lt_of_le}
 use lib.Pow.{pow_pos, pow-add, pow_mono, shl_lt, shl-shr, high, ones_split}
-use lib.IntN.{ℤ, pos, negsuc, sub_ℕ, ◌-ℤ◌}
+use lib.IntN.{ℤ, pos, negsuc, sub_ℕ}
 use lib.Signed.{shr_z}
 use mir.Syntax.{Width}
-use mir.Val.{SFits, to_z, hbits}
+use mir.Val.{SFits, to_z, bits, hbits}
 use mir.ValLaws.{to_z_pos}
+use Rattle.std.proofs.Math.Facts.{to_z-neg}
 use borrow.Author.Tests.{lt-ltb, le-ltb}
 use Rattle.general.proofs.Cases.{by-lt}
 use Rattle.integer.specs.Fields.{signed}
@@ -59,10 +60,14 @@ moved w d n o g =
     ∙ ap negsuc (ap (λ (x : ℕ). x / 2 ^ d) r ∙ high p d (omega (arith, pow_pos d)))
     ∙ sym (high_is w n h g))
 
--- what the code does in the upper half
-pub below : (W : Width) (n : ℕ) → n < 2 ^ hbits W → negsuc 0 -ℤ to_z W n ≡ negsuc n
-below W n h = ap (λ (z : ℤ). negsuc 0 -ℤ z) (to_z_pos W n h) ∙ less n
-  where
-    less : (n : ℕ) → negsuc 0 -ℤ pos n ≡ negsuc n
-    less zero = refl
-    less (suc n) = let e : suc (0 + n) ≡ suc n = omega arith in ap negsuc e
+-- so std has it, of the bits of a type
+pub of-type : (W : Width) (n : ℕ) → bits W ≡ suc (hbits W) → n < 2 ^ bits W → to_z W n ≡ signed (bits W) n
+of-type W n e g =
+    let half : bits W - 1 ≡ hbits W = omega arith in
+    by-lt n (2 ^ hbits W) (λ h. to_z_pos W n h ∙ sym (low-is (bits W) n (subst (λ (j : ℕ). n < 2 ^ j) (sym half) h)))
+    (λ h.
+    let below = 2 ^ bits W - 1 - n in
+    let is : 2 ^ bits W - suc below ≡ n = omega arith in
+    let full : 2 ^ bits W ≡ 2 ^ hbits W * 2 = ap (λ (j : ℕ). 2 ^ j) e ∙ pow-suc 2 (hbits W) in
+    ap (to_z W) (sym is) ∙ to_z-neg W below (omega arith)
+    ∙ sym (high_is (bits W) n (subst (λ (j : ℕ). 2 ^ j ≤ n) (sym half) h) g))

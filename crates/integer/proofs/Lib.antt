@@ -2,7 +2,6 @@
 -- Crates above cite them; `One` says that each contract allows one reply.
 pub mod BigEndian
 pub mod Complement
-pub mod Casts
 pub mod Reading
 pub mod Part
 pub mod One

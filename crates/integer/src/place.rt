@@ -7,19 +7,12 @@ ghost use Rattle.integer.specs.Fields.{need_at};
 pub fn within(len: usize, offset: usize, k: usize) -> bool
     ensures { result ≡ leb (offset + k) len }
 {
-    if len < k {
-        return false;
-    }
-    offset <= len - k
+    k <= len && offset <= len - k
 }
 
 // The need of a field: place plus width, or the largest usize where that passes it.
 pub fn need_at(offset: usize, width: usize) -> usize
     ensures { result ≡ need_at width offset }
 {
-    if offset <= 18446744073709551615 - width {
-        offset + width
-    } else {
-        18446744073709551615
-    }
+    offset.saturating_add(width)
 }

@@ -9,8 +9,9 @@ use lib.ListN.{length}
 use lib.Ieee.{Float}
 use lib.IntN.{ℤ}
 use Rattle.error.specs.Refusal.{Told, yes, no, on_yes}
-use Rattle.error.specs.declared.ResultUnit.{ResultUnit}
-use Rattle.error.specs.Result.{told_unit}
+use Rattle.std.specs.Prelude.{Result}
+use Rattle.error.specs.declared.WireError.{WireError}
+use Rattle.error.specs.Result.{told}
 use Rattle.integer.specs.Fields.{int_at, need_at, reading, scaled_by}
 
 -- an answer r that tells one reading, found to be m: with f at its value it tells another reading of the same field
@@ -26,9 +27,9 @@ turned told kind k value other s at f e p q = ap (λ r. on_yes f (told r)) (sym 
     each false = refl
 
 -- after `check_len`, the value
-pub checked : {B : Type 0} (kind k : ℕ) (value : List ℕ → ℕ → B) (s : List ℕ) (at : ℕ) {r m : ResultUnit}
-    → told_unit r ≡ reading kind k (λ s at. tt) s at → r ≡ m → on_yes (λ u. value s at) (told_unit m) ≡ reading kind k value s at
-checked kind k value s at = turned told_unit kind k (λ s at. tt) value s at (λ u. value s at) refl
+pub checked : {B : Type 0} (kind k : ℕ) (value : List ℕ → ℕ → B) (s : List ℕ) (at : ℕ) {r m : Result Unit WireError}
+    → told r ≡ reading kind k (λ s at. tt) s at → r ≡ m → on_yes (λ u. value s at) (told m) ≡ reading kind k value s at
+checked kind k value s at = turned told kind k (λ s at. tt) value s at (λ u. value s at) refl
 
 -- after a reader of a signed field, its value scaled
 pub scaled : {R : Type 0} (told : R → Told ℤ) (kind k : ℕ) (scale : Float) (s : List ℕ) (at : ℕ) {r m : R}

@@ -3,105 +3,107 @@
 #![tactic(auto)]
 
 ghost use Rattle.std.specs.Prelude.{◌≡◌};
-ghost use Rattle.error.specs.Result.{told_unit, told_i16, told_u16, told_i32, told_u32, told_f64};
+ghost use Rattle.error.specs.Result.{told};
 ghost use Rattle.integer.specs.Fields.{be_at, int_at, reading, scaled_by};
+ghost use Rattle.integer_read.specs.Private.{kind_of, width_of};
 
-use error::{ResultF64, ResultI16, ResultI32, ResultU16, ResultU32, ResultUnit, WireError};
+use error::WireError;
 use integer::{int16_at, int24_at, int32_at, need_at, uint16_at, uint24_at, uint32_at, within};
 
-pub fn read_int16(data: &[u8], offset: usize) -> ResultI16
-    ensures { told_i16 result ≡ reading 1 2 (int_at 2) «data».now offset }
+// Each reader is its test and its field: one that took the field's reader as a closure would have to ask that it may be called,
+// and be no shorter.
+pub fn read_int16(data: &[u8], offset: usize) -> Result<i16, WireError>
+    ensures { told result ≡ reading 1 2 (int_at 2) «data».now offset }
 {
-    match check_len(data, offset, 2, INT16) {
-        ResultUnit::Ok => ResultI16::Ok(int16_at(data, offset)),
-        ResultUnit::Err(e) => ResultI16::Err(e),
+    check_len(data, offset, Field::Int16)?;
+    Ok(int16_at(data, offset))
+}
+
+pub fn read_uint16(data: &[u8], offset: usize) -> Result<u16, WireError>
+    ensures { told result ≡ reading 2 2 (be_at 2) «data».now offset }
+{
+    check_len(data, offset, Field::Uint16)?;
+    Ok(uint16_at(data, offset))
+}
+
+pub fn read_int24(data: &[u8], offset: usize) -> Result<i32, WireError>
+    ensures { told result ≡ reading 3 3 (int_at 3) «data».now offset }
+{
+    check_len(data, offset, Field::Int24)?;
+    Ok(int24_at(data, offset))
+}
+
+pub fn read_uint24(data: &[u8], offset: usize) -> Result<u32, WireError>
+    ensures { told result ≡ reading 4 3 (be_at 3) «data».now offset }
+{
+    check_len(data, offset, Field::Uint24)?;
+    Ok(uint24_at(data, offset))
+}
+
+pub fn read_int32(data: &[u8], offset: usize) -> Result<i32, WireError>
+    ensures { told result ≡ reading 5 4 (int_at 4) «data».now offset }
+{
+    check_len(data, offset, Field::Int32)?;
+    Ok(int32_at(data, offset))
+}
+
+pub fn read_uint32(data: &[u8], offset: usize) -> Result<u32, WireError>
+    ensures { told result ≡ reading 6 4 (be_at 4) «data».now offset }
+{
+    check_len(data, offset, Field::Uint32)?;
+    Ok(uint32_at(data, offset))
+}
+
+pub fn read_int24_scaled(data: &[u8], offset: usize, scale: f64) -> Result<f64, WireError>
+    ensures { told result ≡ reading 3 3 (λ s at. scaled_by scale (int_at 3 s at)) «data».now offset }
+{
+    Ok(read_int24(data, offset)? as f64 / scale)
+}
+
+pub fn read_int16_scaled(data: &[u8], offset: usize, scale: f64) -> Result<f64, WireError>
+    ensures { told result ≡ reading 1 2 (λ s at. scaled_by scale (int_at 2 s at)) «data».now offset }
+{
+    Ok(read_int16(data, offset)? as f64 / scale)
+}
+
+// The integer fields, each with the kind that refusal 7 names.
+#[derive(Clone, Copy)]
+enum Field {
+    Int16 = 1,
+    Uint16 = 2,
+    Int24 = 3,
+    Uint24 = 4,
+    Int32 = 5,
+    Uint32 = 6,
+}
+
+impl Field {
+    fn kind(self) -> u8
+        ensures { result ≡ kind_of self }
+    {
+        self as u8
+    }
+
+    fn width(self) -> usize
+        ensures { result ≡ width_of self }
+    {
+        match self {
+            Field::Int16 | Field::Uint16 => 2,
+            Field::Int24 | Field::Uint24 => 3,
+            Field::Int32 | Field::Uint32 => 4,
+        }
     }
 }
 
-pub fn read_uint16(data: &[u8], offset: usize) -> ResultU16
-    ensures { told_u16 result ≡ reading 2 2 (be_at 2) «data».now offset }
+// Refusal 7 where the field does not fit.
+fn check_len(data: &[u8], offset: usize, field: Field) -> Result<(), WireError>
+    ensures { told result ≡ reading (kind_of field) (width_of field) (λ s at. tt) «data».now offset }
 {
-    match check_len(data, offset, 2, UINT16) {
-        ResultUnit::Ok => ResultU16::Ok(uint16_at(data, offset)),
-        ResultUnit::Err(e) => ResultU16::Err(e),
-    }
-}
-
-pub fn read_int24(data: &[u8], offset: usize) -> ResultI32
-    ensures { told_i32 result ≡ reading 3 3 (int_at 3) «data».now offset }
-{
-    match check_len(data, offset, 3, INT24) {
-        ResultUnit::Ok => ResultI32::Ok(int24_at(data, offset)),
-        ResultUnit::Err(e) => ResultI32::Err(e),
-    }
-}
-
-pub fn read_uint24(data: &[u8], offset: usize) -> ResultU32
-    ensures { told_u32 result ≡ reading 4 3 (be_at 3) «data».now offset }
-{
-    match check_len(data, offset, 3, UINT24) {
-        ResultUnit::Ok => ResultU32::Ok(uint24_at(data, offset)),
-        ResultUnit::Err(e) => ResultU32::Err(e),
-    }
-}
-
-pub fn read_int32(data: &[u8], offset: usize) -> ResultI32
-    ensures { told_i32 result ≡ reading 5 4 (int_at 4) «data».now offset }
-{
-    match check_len(data, offset, 4, INT32) {
-        ResultUnit::Ok => ResultI32::Ok(int32_at(data, offset)),
-        ResultUnit::Err(e) => ResultI32::Err(e),
-    }
-}
-
-pub fn read_uint32(data: &[u8], offset: usize) -> ResultU32
-    ensures { told_u32 result ≡ reading 6 4 (be_at 4) «data».now offset }
-{
-    match check_len(data, offset, 4, UINT32) {
-        ResultUnit::Ok => ResultU32::Ok(uint32_at(data, offset)),
-        ResultUnit::Err(e) => ResultU32::Err(e),
-    }
-}
-
-pub fn read_int24_scaled(data: &[u8], offset: usize, scale: f64) -> ResultF64
-    ensures { told_f64 result ≡ reading 3 3 (λ s at. scaled_by scale (int_at 3 s at)) «data».now offset }
-{
-    match read_int24(data, offset) {
-        ResultI32::Ok(val) => ResultF64::Ok(val as f64 / scale),
-        ResultI32::Err(e) => ResultF64::Err(e),
-    }
-}
-
-pub fn read_int16_scaled(data: &[u8], offset: usize, scale: f64) -> ResultF64
-    ensures { told_f64 result ≡ reading 1 2 (λ s at. scaled_by scale (int_at 2 s at)) «data».now offset }
-{
-    match read_int16(data, offset) {
-        ResultI16::Ok(val) => ResultF64::Ok(val as f64 / scale),
-        ResultI16::Err(e) => ResultF64::Err(e),
-    }
-}
-
-// The kinds that refusal 7 names.
-const INT16: u8 = 1;
-
-const UINT16: u8 = 2;
-
-const INT24: u8 = 3;
-
-const UINT24: u8 = 4;
-
-const INT32: u8 = 5;
-
-const UINT32: u8 = 6;
-
-// Refusal 7 where a field of that width and kind does not fit.
-fn check_len(data: &[u8], offset: usize, width: usize, kind: u8) -> ResultUnit
-    ensures { told_unit result ≡ reading kind width (λ s at. tt) «data».now offset }
-{
+    let width = field.width();
     if within(data.len(), offset, width) {
-        return ResultUnit::Ok;
+        return Ok(());
     }
     let need = need_at(offset, width);
     let got = data.len();
-    ResultUnit::Err(WireError::payload_too_short(kind, need, got))
+    Err(WireError::payload_too_short(field.kind(), need, got))
 }

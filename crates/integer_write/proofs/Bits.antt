@@ -7,6 +7,8 @@ use native.Mathlib.Nat.{add-mul, mod-lt, mod-eq_of_lt}
 use lib.Pow.{pow_pos, shr_lt, split, low, mod-mod-pow, ones_split}
 use lib.IntN.{ℤ, pos, negsuc}
 use lib.Signed.{mag}
+use mir.Syntax.{Width}
+use mir.Val.{of_z, bits}
 use Rattle.general.proofs.Cases.{by-lt}
 use Rattle.integer.specs.Fields.{signed}
 use Rattle.integer.proofs.Complement.{halves, low-is, high_is}
@@ -16,6 +18,12 @@ pub unsigned-lt : (w : ℕ) (z : ℤ) → unsigned w z < 2 ^ w
 unfolding unsigned
 unsigned-lt w (pos n) = mod-lt n (pow_pos w)
 unsigned-lt w (negsuc n) = omega (arith, pow_pos w)
+
+-- so std has the bits of a type
+pub of-type : (W : Width) (z : ℤ) → mag z < 2 ^ bits W → of_z W z ≡ unsigned (bits W) z
+unfolding unsigned
+of-type W (pos n) h = sym (mod-eq_of_lt h)
+of-type W (negsuc n) h = ap (λ (m : ℕ). 2 ^ bits W - suc m) (sym (mod-eq_of_lt h))
 
 -- fewer bits of a number's w bits in two's complement are its bits in fewer
 pub unsigned-low : (v w : ℕ) (z : ℤ) → v ≤ w → unsigned w z % 2 ^ v ≡ unsigned v z

@@ -2,14 +2,22 @@
 -- Each law once over the width.
 use Prim.Native.Nat.{ℕ, zero, suc, ◌+◌, ◌-◌, ◌*◌, ◌/◌, ◌%◌, ◌^◌, ◌≤◌}
 use mathlib.Core.Path.{◌≡◌, refl, sym, ap, ◌∙◌}
-use mathlib.Core.List.{◌∷◌}
+use mathlib.Core.List.{List, [], ◌∷◌}
 use native.Mathlib.Omega.{arith}
-use native.Mathlib.Nat.{pow-suc}
+use native.Mathlib.Nat.{pow-suc, div-one}
+use Rattle.std.specs.Int.{bytes_high_first}
 use lib.ListN.{length}
 use lib.Pow.{pow-add, field, mod-mod-pow}
 use lib.IntN.{ℤ}
 use Rattle.integer_write.specs.Writing.{bytes_of, unsigned, int_bytes}
 use Rattle.integer_write.proofs.Bits.{unsigned-low}
+
+-- so std has the bytes of a type
+pub be-bytes : (k n : ℕ) → bytes_high_first k n ≡ bytes_of k n
+unfolding bytes_of
+be-bytes zero n = refl
+be-bytes (suc zero) n = ap (λ (m : ℕ). m % 256 ∷ []) (sym (div-one n))
+be-bytes (suc (suc k)) n = ap (λ (l : List ℕ). n / 256 ^ suc k % 256 ∷ l) (be-bytes (suc k) n)
 
 pub length-bytes : (k n : ℕ) → length (bytes_of k n) ≡ k
 unfolding bytes_of

@@ -9,14 +9,15 @@ use lib.Dec.{leb}
 use lib.ListN.{length}
 use lib.Seq.{sets}
 use Rattle.error.specs.Refusal.{yes, no}
-use Rattle.error.specs.declared.ResultUnit.{ResultUnit}
-use Rattle.error.specs.Result.{told_unit}
+use Rattle.std.specs.Prelude.{Result}
+use Rattle.error.specs.declared.WireError.{WireError}
+use Rattle.error.specs.Result.{told}
 use Rattle.integer.specs.Fields.{need_at}
 use Rattle.integer_write.specs.Writing.{writing, written}
 
 -- what a writer's contract says of its reply and of the buffer then
-abbrev pub Wrote : ResultUnit → List ℕ → List ℕ → List ℕ → ℕ → Type 0
-Wrote r b bs s at = (told_unit r ≡ writing bs s at) × (b ≡ written bs s at)
+abbrev pub Wrote : Result Unit WireError → List ℕ → List ℕ → List ℕ → ℕ → Type 0
+Wrote r b bs s at = (told r ≡ writing bs s at) × (b ≡ written bs s at)
 
 module _ (bs s : List ℕ) (at : ℕ) where
   pub writes-where : leb (at + length bs) (length s) ≡ true → (writing bs s at ≡ yes tt) × (written bs s at ≡ sets s at bs)

@@ -2,8 +2,7 @@
 -- `One` says that each contract allows one reply and one buffer.
 pub mod Bits
 pub mod Bytes
-pub mod Bias
-pub mod Stores
 pub mod Cases
+pub mod Runs
 pub mod Back
 pub mod One

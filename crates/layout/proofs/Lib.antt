@@ -4,4 +4,5 @@ pub mod Held
 pub mod Lengths
 pub mod Parts
 pub mod Spread
+pub mod Alike
 pub mod One

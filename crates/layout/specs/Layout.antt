@@ -5,7 +5,9 @@ use Rattle.std.specs.Float.{binary64}
 use Rattle.std.specs.Float.Ieee.{of_int}
 use Rattle.general.specs.Number.{zero_float}
 use Rattle.error.specs.Refusal.{Told, yes, no}
+use Rattle.error.specs.Result.{told}
 use Rattle.integer.specs.Fields.{be_at, int_at, scaled_by}
+use Rattle.layout.specs.declared.Decoded.{Decoded}
 
 -- the byte at a place; the signed and the unsigned number of k bytes there; the signed one as a figure
 pub record Source : Type 0 where
@@ -39,7 +41,15 @@ answered kind least p = cond (ltb (length p) least) (no 7 (kind ∷ least ∷ le
 unfoldable pub source_of : ℕ → List ℕ → Source
 source_of least p = cond (ltb (length p) least) zeros (fields_of (take least p))
 
+-- the record beside the answer: nothing where the message is too short, else what its bytes fill
+unfoldable pub record_of : {A : Type 0} → ℕ → (List ℕ → A) → A → List ℕ → A
+record_of least filled nothing p = cond (ltb (length p) least) nothing (filled p)
+
 -- n values in a row
 abbrev pub row : {A : Type 0} → ℕ → (ℕ → A) → List A
 row zero f = []
 row (suc n) f = f 0 ∷ row n (λ k. f (suc k))
+
+-- what a decoder tells, and the record beside it
+abbrev pub told_decoded : {A : Type 0} → Decoded A → Told Unit × A
+told_decoded d = (told d.result, d.«record»)

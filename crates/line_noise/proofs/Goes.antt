@@ -1,11 +1,7 @@
 -- There are calls as a run of the program has them (specs/Program), from fresh, whatever the hold buffer is and whatever the pieces are,
 -- while all of them are less than can be counted. So the theorems of proofs/Printed are about something.
-use Prim.Native.Nat.{ℕ, ◌^◌, ◌<◌}
-use mathlib.Core.Path.{◌≡◌, refl}
-use mathlib.Core.List.{List, [], ◌∷◌, ◌++◌, append_assoc, append-nil}
-use native.Mathlib.Omega.{arith}
-use lib.ListN.{length}
-use Rattle.error.specs.declared.ResultUnit.TheVariants.{Ok}
+use Rattle.std.proofs.Common.{ℕ, ◌^◌, ◌<◌, ◌≡◌, refl, List, [], ◌∷◌, ◌++◌, append_assoc, append-nil, arith, length}
+use Rattle.std.specs.declared.result.Result.TheVariants.{Ok}
 use Rattle.stream.specs.Stream.{joined}
 use Rattle.line_noise.specs.Piece.{Between, wholly}
 use Rattle.line_noise.specs.Program.{first, Pieces, done, piece}
@@ -19,7 +15,7 @@ goes_on h cs [] t p l = (t, rw (append-nil cs) p)
 goes_on h cs (d ∷ ds) t p l =
     let free = not-refused p d (omega (arith, joined_length cs d ds)) in
     let w = wholly (length d) t d in
-    let q = behind-last p (piece (record { reply = Ok; splitter = w.splitter }) w.hold (take-free t d (still-good p) free) refl done) in
+    let q = behind-last p (piece (Ok tt) w.splitter w.hold (take-free t d (still-good p) free) refl done) in
     let same : (cs ++ (d ∷ [])) ++ ds ≡ cs ++ (d ∷ ds) = append_assoc cs (d ∷ []) ds in
     let r = goes_on h (cs ++ (d ∷ [])) ds w q (rw same l) in
     (r.0, rw same at r.1)

@@ -1,15 +1,12 @@
 -- A whole piece: what holds after each call of the splitter, from the first to the last.
 -- `Going` is the invariant of that loop; where all is taken it is the rule's own answer (`finished`).
-use Prim.Native.Nat.{ℕ, zero, suc, ◌+◌, ◌-◌, ◌<◌, ◌≤◌}
-use mathlib.Core.Path.{◌≡◌, refl, sym, ap, ◌∙◌}
-use mathlib.Core.Bool.{false}
-use mathlib.Core.List.{List, [], ◌∷◌}
-use native.Mathlib.Nat.{not-suc-le-zero}
-use native.Mathlib.Omega.{arith}
-use lib.ListN.{length, drop, length-drop, drop_of_length-le}
-use lib.Seq.{drop-drop}
+use Rattle.std.proofs.Common.{ℕ, zero, suc, ◌<◌, ◌≤◌, ◌≡◌, refl, sym, ap, ◌∙◌, false, List, [], ◌∷◌, not-suc-le-zero, arith, length, drop, length-drop}
 use Rattle.splitter.specs.declared.Fed.{Fed}
-use Rattle.splitter.specs.Feed.{Given, is_bad, is_full, given_by}
+use Rattle.std.specs.Prelude.{Result, IsOk}
+use Rattle.error.specs.declared.WireError.{WireError}
+use Rattle.splitter.specs.declared.FrameSplitter.{FrameSplitter}
+use Rattle.splitter.specs.Feed.{Given, is_bad, is_full, given_by, taken_of}
+use Rattle.session.proofs.Pieces.{answered}
 use Rattle.splitter.proofs.Laws.{good-after, free-after}
 use Rattle.stream.proofs.Ends.{feed-within, feed-moves}
 use Rattle.line_noise.specs.Piece.{Between, between, offered, after_offer, wholly}
@@ -41,65 +38,52 @@ open_after t c o size =
 -- ---- the loop over a piece c, from t₀
 
 module _ (t₀ : Between) (c : List ℕ) where
-  -- at bytes are taken; k calls are enough for the rest
-  pub record Going (t : Between) (at : ℕ) : Type 0 where
+  -- what is left is still to be taken; k calls are enough for it
+  pub record Going (t : Between) (left : List ℕ) : Type 0 where
     pub calls : ℕ
-    pub within : at ≤ length c
-    pub enough : length c ≤ at + calls
-    pub rest : wholly (length c) t₀ c ≡ wholly calls t (drop at c)
-    pub may : Open t (length (drop at c))
+    pub enough : length left ≤ calls
+    pub rest : wholly (length c) t₀ c ≡ wholly calls t left
+    pub may : Open t (length left)
     pub held : length t.hold ≡ length t₀.hold
 
-  pub going : Open t₀ (length c) → Going t₀ 0
-  going o = record { calls = length c; within = omega arith; enough = omega arith; rest = refl; may = o; held = refl }
+  pub going : Open t₀ (length c) → Going t₀ c
+  going o = record { calls = length c; enough = omega arith; rest = refl; may = o; held = refl }
 
-  module _ {t : Between} {at : ℕ} (g : Going t at) (h : at < length c) (f : Fed) (hold : List ℕ) (e : given_by f hold ≡ offered t (drop at c)) where
-    some : 0 < length (drop at c)
-    some = simp length-drop (omega arith)
+  -- a call of the splitter, with any reply that its contract allows: it is not refused, and takes a part of what is left
+  module _ {t : Between} {left : List ℕ} (g : Going t left) (h : 0 < length left) (r : Result Fed WireError) (s : FrameSplitter) (hold : List ℕ)
+      (e : given_by r s hold ≡ offered t left) where
+    taken : taken_of r ≡ (offered t left).taken
+    taken = ap (λ (x : Given). x.taken) e
 
-    taken_is : f.taken ≡ (offered t (drop at c)).taken
-    taken_is = ap (λ (x : Given). x.taken) e
+    after : between s hold ≡ after_offer t left
+    after = ap (λ (x : Given). between x.state x.hold) e
 
-    after_is : between f.splitter hold ≡ after_offer t (drop at c)
-    after_is = ap (λ (x : Given). between x.state x.hold) e
+    pub moves : 0 < taken_of r
+    moves = rw taken (feed-moves t.splitter t.hold left g.may.good g.may.free h)
 
-    pub moves : 0 < f.taken
-    moves = rw taken_is (feed-moves t.splitter t.hold (drop at c) g.may.good g.may.free some)
+    pub is_fed : IsOk r
+    is_fed = answered r moves
 
-    pub inside : at + f.taken ≤ length c
-    inside =
-        let l : f.taken ≤ length c - at = rw (← length-drop at c, taken_is) (feed-within t.splitter t.hold (drop at c)) in
-        omega arith
+    more : (k : ℕ) → g.calls ≡ suc k → wholly (length c) t₀ c ≡ wholly k (between s hold) (drop (taken_of r) left)
+    more k q = g.rest ∙ ap (λ (n : ℕ). wholly n t left) q ∙ wholly-step k t left h ∙ rw (← after, ← taken)
 
-    more : (k : ℕ) → g.calls ≡ suc k → wholly (length c) t₀ c ≡ wholly k (between f.splitter hold) (drop (at + f.taken) c)
-    more k q =
-        g.rest
-        ∙ ap (λ (n : ℕ). wholly n t (drop at c)) q
-        ∙ wholly-step k t (drop at c) some
-        ∙ rw (← after_is, ← taken_is, drop-drop f.taken at c)
-
-    pub goes_on : length hold ≡ length t.hold → Going (between f.splitter hold) (at + f.taken)
+    pub goes_on : length hold ≡ length t.hold → Going (between s hold) (drop (taken_of r) left)
     goes_on eh = with-calls g.calls refl
       where
-        next : Open (between f.splitter hold) (length (drop (at + f.taken) c))
-        next =
-            rw (after_is, ← drop-drop f.taken at c, taken_is)
-            (open_after t (drop at c) g.may (rw (← ap (λ (x : Given). x.hold) e) eh))
+        next : Open (between s hold) (length (drop (taken_of r) left))
+        next = rw (after, taken) (open_after t left g.may (rw (← ap (λ (x : Given). x.hold) e) eh))
 
-        with-calls : (n : ℕ) → g.calls ≡ n → Going (between f.splitter hold) (at + f.taken)
+        with-calls : (n : ℕ) → g.calls ≡ n → Going (between s hold) (drop (taken_of r) left)
         with-calls zero q = absurd (let x : ⊥ = omega (arith, g.enough) in x)
         with-calls (suc m) q =
             record {
               calls = m;
-              within = inside;
-              enough = omega (arith, g.enough, moves);
+              enough = omega (arith, g.enough, moves, length-drop (taken_of r) left);
               rest = more m q;
               may = next;
               held = eh ∙ g.held;
             }
 
   -- all is taken
-  pub finished : {t : Between} {at : ℕ} → Going t at → length c ≤ at → t ≡ wholly (length c) t₀ c
-  finished {t} {at} g h =
-      let none : drop at c ≡ [] = drop_of_length-le c h in
-      sym (g.rest ∙ ap (wholly g.calls t) none ∙ wholly-end g.calls t)
+  pub finished : {t : Between} {left : List ℕ} → Going t left → left ≡ [] → t ≡ wholly (length c) t₀ c
+  finished {t} {left} g none = sym (g.rest ∙ ap (wholly g.calls t) none ∙ wholly-end g.calls t)

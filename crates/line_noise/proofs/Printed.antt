@@ -1,23 +1,16 @@
 -- What the program `noise` prints are the five counts of the bytes that it read, by what request 6 means by each, however they are cut.
 -- `prints` says which lines, `prints-none` when there are none, `any-cut` that two cuttings print the same: of any run that the contracts allow.
-use Prim.Native.Nat.{ℕ, zero, suc, ◌+◌, ◌^◌, ◌<◌, ◌≤◌}
-use mathlib.Core.Path.{◌≡◌, refl, sym, ap, ◌∙◌, subst}
-use mathlib.Core.Bool.{false}
-use mathlib.Core.List.{List, [], ◌∷◌, ◌++◌, append_assoc}
-use native.Mathlib.Nat.{not-suc-le-zero}
-use native.Mathlib.Omega.{arith}
-use lib.ListN.{length, drop, length-append, length-drop}
-use borrow.Author.Tests.{le-ltb}
+use Rattle.std.proofs.Common.{ℕ, zero, suc, ◌+◌, ◌^◌, ◌<◌, ◌≤◌, ◌≡◌, refl, sym, ap, ◌∙◌, subst, false, List, [], ◌∷◌, ◌++◌, append_assoc, not-suc-le-zero, arith, length, drop, length-append, length-drop, le-ltb}
 use Rattle.general.proofs.Cases.{by-test}
 use Rattle.error.specs.Refusal.{yes, no}
 use Rattle.splitter.specs.declared.Counts.{Counts}
-use Rattle.splitter.specs.Feed.{Given, new, is_bad, is_full}
-use Rattle.splitter.proofs.One.{fed_of}
+use Rattle.splitter.specs.Feed.{Given, new, taken_of, is_bad, is_full}
+use Rattle.splitter.proofs.One.{reply_of}
 use Rattle.splitter.proofs.Laws.{can-take}
 use Rattle.stream.specs.Stream.{Call, Calls, Feeds, joined}
 use Rattle.stream.specs.Stream as stream
 use Rattle.stream.specs.Noise.{counts_over}
-use Rattle.stream.proofs.Ends.{good-call, feed-moves, allowed, feeds-calls}
+use Rattle.stream.proofs.Ends.{good-call, feed-moves, allowed, replied, feeds-calls}
 use Rattle.stream.proofs.Noise.{counts-are, line-below}
 use Rattle.session.proofs.Printed.{line-shown}
 use Rattle.line_noise.specs.Piece.{Between, offered, after_offer, wholly, Outcome, take_rule, outcome_of}
@@ -54,7 +47,9 @@ one_piece (suc k) t (b ∷ c) cs t' o l rest =
     let le : length (drop g.taken d) ≤ k = rw (length-drop g.taken d) (omega (arith, some)) in
     let next = open_after t d o (good-call t.splitter t.hold o.good d o.free).size in
     let r : Traced (after_offer t d) (drop g.taken d ∷ cs) t' = one_piece k (after_offer t d) (drop g.taken d) cs t' next le rest in
-    record { trace = _; feeds = stream.Feeds.feed (fed_of g) g.hold (allowed t.splitter t.hold d) r.feeds; good = r.good }
+    let reply = reply_of g.answer g.taken in
+    let feeds : Feeds g.state g.hold (drop (taken_of reply) d ∷ cs) r.trace t'.splitter t'.hold = rw (replied t.splitter t.hold d).1 r.feeds in
+    record { trace = _; feeds = stream.Feeds.feed reply g.state g.hold (allowed t.splitter t.hold d) feeds; good = r.good }
 
 -- a reply that is no refusal: there was room to count the piece, and all of it is taken
 module _ (t : Between) (c : List ℕ) (good : is_bad t.splitter (length t.hold) ≡ false) (o : Outcome) (e : o ≡ take_rule t c) (y : o.reply ≡ yes tt) where
@@ -69,9 +64,9 @@ module _ (t : Between) (c : List ℕ) (good : is_bad t.splitter (length t.hold) 
 
 traced : {t t' : Between} {cs : List (List ℕ)} → Pieces t cs t' → After t cs t'
 traced program.Pieces.done good = record { trace = []; feeds = stream.Feeds.done; good = good }
-traced {t} {t'} (program.Pieces.piece {c = c} {cs = cs} r h e y rest) good =
-    let after : After (wholly (length c) t c) cs t' = subst (λ (x : Between). After x cs t') (taken-all t c good (outcome_of r h) e y) (λ g. traced rest g) in
-    one_piece (length c) t c cs t' (record { good = good; free = taken_free t c good (outcome_of r h) e y }) (omega arith) after
+traced {t} {t'} (program.Pieces.piece {c = c} {cs = cs} r s h e y rest) good =
+    let after : After (wholly (length c) t c) cs t' = subst (λ (x : Between). After x cs t') (taken-all t c good (outcome_of r s h) e y) (λ g. traced rest g) in
+    one_piece (length c) t c cs t' (record { good = good; free = taken_free t c good (outcome_of r s h) e y }) (omega arith) after
 
 -- ---- the theorems
 
@@ -113,7 +108,7 @@ joined_length cs d ds = rw (joined-append cs (d ∷ ds), length-append (joined c
 pub prints : {h : List ℕ} {cs : List (List ℕ)} {printed : List ℕ} → length (joined cs) < 2 ^ 64 → Run h cs printed
     → printed ≡ noise_text (counts_over (length h) (joined cs))
 prints l (program.Run.whole p lines) = lines-shown lines ∙ ap noise_text (counts-after p)
-prints l (program.Run.stopped {cs = cs} {t = t} {k = k} {vs = vs} c rest r h p e refused) =
+prints l (program.Run.stopped {cs = cs} {t = t} {k = k} {vs = vs} c rest r s h p e refused) =
     let free = not-refused p c (omega (arith, joined_length cs c rest)) in
     let z : no k vs ≡ yes tt = sym refused ∙ ap (λ (o : Outcome). o.reply) (e ∙ sym (take-free t c (still-good p) free)) in
     cc
@@ -121,7 +116,7 @@ prints l (program.Run.stopped {cs = cs} {t = t} {k = k} {vs = vs} c rest r h p e
 -- of a longer one nothing is printed: some piece of it is refused
 pub prints-none : {h : List ℕ} {cs : List (List ℕ)} {printed : List ℕ} → 2 ^ 64 ≤ length (joined cs) → Run h cs printed → printed ≡ []
 prints-none l (program.Run.whole p lines) = absurd (let x : ⊥ = omega (arith, line-below (feeds-calls (traces p).feeds)) in x)
-prints-none l (program.Run.stopped c rest r h p e refused) = refl
+prints-none l (program.Run.stopped c rest r s h p e refused) = refl
 
 -- pieces of one stream, cut in two ways, with hold buffers of equal lengths, whatever they hold
 pub any-cut : {h h' : List ℕ} {cs cs' : List (List ℕ)} {printed printed' : List ℕ} → length h ≡ length h' → joined cs ≡ joined cs'

@@ -1,10 +1,6 @@
 -- Which case of the piece's rule holds, by the splitter's state and by what can still be counted.
 -- One of the three holds for every input: 9, 13, or all of the piece is taken.
-use mathlib.Core.Path.{◌≡◌}
-use mathlib.Core.Bool.{true, false}
-use mathlib.Core.List.{List, []}
-use Prim.Native.Nat.{ℕ}
-use lib.ListN.{length}
+use Rattle.std.proofs.Common.{◌≡◌, true, false, List, [], ℕ, length}
 use Rattle.error.specs.Refusal.{yes, no}
 use Rattle.splitter.specs.Feed.{is_bad, is_full}
 use Rattle.line_noise.specs.Piece.{Between, wholly, outcome, take_rule}

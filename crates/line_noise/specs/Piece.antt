@@ -1,11 +1,12 @@
 -- One piece of the input: the splitter is fed until all of it is taken.
 -- The rule fixes the reply, the splitter, and every byte of the hold buffer.
 use Rattle.std.specs.Prelude.{ℕ, zero, suc, cond, List, [], ◌∷◌, length, drop}
+use Rattle.std.specs.Prelude.{Result}
+use Rattle.error.specs.declared.WireError.{WireError}
 use Rattle.error.specs.Refusal.{Told, yes, no}
-use Rattle.error.specs.Result.{told_unit}
+use Rattle.error.specs.Result.{told}
 use Rattle.splitter.specs.declared.FrameSplitter.{FrameSplitter}
 use Rattle.splitter.specs.Feed.{Given, feed_rule, is_bad, is_full}
-use Rattle.line_noise.specs.declared.Counted.{Counted}
 
 -- what is kept between two calls: the splitter and the hold buffer
 pub record Between : Type 0 where
@@ -36,8 +37,8 @@ pub record Outcome : Type 0 where
 abbrev pub outcome : Told Unit → Between → Outcome
 outcome a t = record { reply = a; kept = t }
 
-abbrev pub outcome_of : Counted → List ℕ → Outcome
-outcome_of r h = outcome (told_unit r.reply) (between r.splitter h)
+abbrev pub outcome_of : Result Unit WireError → FrameSplitter → List ℕ → Outcome
+outcome_of r s h = outcome (told r) (between s h)
 
 -- a state that no call gives (9), then more bytes than can be counted (13), and nothing is altered; else all of the piece is taken
 unfoldable pub take_rule : Between → List ℕ → Outcome

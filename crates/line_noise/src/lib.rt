@@ -6,51 +6,38 @@ ghost use Rattle.std.specs.Prelude.{◌≡◌, false, length};
 ghost use Rattle.splitter.specs.Feed.{is_bad, is_full};
 ghost use Rattle.line_noise.specs.Piece.{between, wholly, take_rule, outcome_of};
 
-use error::{ResultUnit, WireError};
+use error::WireError;
 use splitter::FrameSplitter;
 
-// Whether a piece was taken, and the splitter for the next.
-#[derive(Drop)]
-pub struct Counted {
-    pub reply: ResultUnit,
-    pub splitter: FrameSplitter,
-}
-
-// All of a piece, or nothing of it.
-pub fn take_all(splitter: FrameSplitter, hold: &mut [u8], chunk: &[u8]) -> Counted
-    ensures { outcome_of result hold.new ≡ take_rule (between splitter hold.old) chunk.now }
+// All of a piece, or nothing of it: what is refused alters nothing.
+pub fn take_all(
+    splitter: &mut FrameSplitter,
+    hold: &mut [u8],
+    chunk: &[u8],
+) -> Result<(), WireError>
+    ensures { outcome_of result splitter.new hold.new ≡ take_rule (between splitter.old hold.old) chunk.now }
 {
     if splitter.is_bad(hold.len()) {
-        return Counted {
-            reply: ResultUnit::Err(WireError::BadState),
-            splitter,
-        };
+        return Err(WireError::BadState);
     }
     if splitter.is_full(chunk.len()) {
-        return Counted {
-            reply: ResultUnit::Err(WireError::CounterFull),
-            splitter,
-        };
+        return Err(WireError::CounterFull);
     }
-    let after = feed_all(splitter, hold, chunk);
-    Counted {
-        reply: ResultUnit::Ok,
-        splitter: after,
-    }
+    feed_all(splitter, hold, chunk);
+    Ok(())
 }
 
 // What a call leaves of the piece is offered again. Taken and what is left add up to the same number before each call, so none is refused.
-fn feed_all(start: FrameSplitter, hold: &mut [u8], chunk: &[u8]) -> FrameSplitter
-    requires { (is_bad start (length hold.old) ≡ false) × (is_full start (length chunk.now) ≡ false) }
-    ensures { between result hold.new ≡
-        wholly (length chunk.now) (between start hold.old) chunk.now }
+// The lines of `session` come from a loop of the same form: one for both would take the state, what is done with an event and the rule of
+// both as parameters, which is more than its three lines.
+fn feed_all(splitter: &mut FrameSplitter, hold: &mut [u8], chunk: &[u8])
+    requires { (is_bad splitter.old (length hold.old) ≡ false) × (is_full splitter.old (length chunk.now) ≡ false) }
+    ensures { between splitter.new hold.new ≡
+        wholly (length chunk.now) (between splitter.old hold.old) chunk.now }
 {
-    let mut splitter = start;
-    let mut at = 0;
-    while at < chunk.len() {
-        let fed = splitter.feed(hold, &chunk[at..]);
-        splitter = fed.splitter;
-        at += fed.taken;
+    let mut rest = chunk;
+    while !rest.is_empty() {
+        let fed = splitter.feed(hold, rest).unwrap();
+        rest = &rest[fed.taken..];
     }
-    splitter
 }

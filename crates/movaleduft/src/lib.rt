@@ -1,5 +1,5 @@
 // The exported library: the calls that include/movaleduft.h declares, for C and C++.
-// Each is the call of its name in a crate abi_*, and promises what that one does.
+// Each is the call of its name in a crate abi_*, and promises what that one does; C knows them by name, so none can be left out.
 #![tactic(auto)]
 
 ghost use Rattle.abi_error.specs.ValueCount.{ValueCount};

@@ -2,10 +2,10 @@
 // The work on a piece is `line_noise`'s; the calls are those of a run of line_noise: specs/Program, whose theorems say what is printed.
 #![tactic(auto)]
 
-ghost use Rattle.line_noise.specs.Piece.{between};
-ghost use Rattle.line_noise.specs.Program.{Reached};
+ghost use Rattle.noise.specs.Line.{Between};
 
-use error::ResultUnit;
+use error::WireError;
+use program::Sink;
 use report::Count;
 use splitter::{Counts, FrameSplitter};
 
@@ -21,57 +21,38 @@ fn main(rt: HostRuntime) {
 
 // Where a read fails, or a piece is refused, that is told and no count is printed: they are not the whole capture's.
 fn count_all(rt: &HostRuntime) {
-    let mut hold = [0u8; 2048];
-    let mut piece = [0u8; 8192];
-    let read = read_all(rt, &mut hold, &mut piece);
-    if read.is_whole {
-        let splitter = read.splitter;
-        print_counts(rt, splitter.counts);
+    let mut line = Line {
+        splitter: FrameSplitter::new(),
+        hold: [0; 2048],
+    };
+    if program::read_all(rt, b"noise", &mut line) {
+        print_counts(rt, line.splitter.counts);
     }
 }
 
-// The splitter after the last piece, and whether that was the end of the input.
+// The splitter, and its hold buffer.
 #[derive(Drop)]
-struct Read {
+struct Line {
     splitter: FrameSplitter,
-    is_whole: bool,
+    hold: [u8; 2048],
 }
 
-// Reads once in each turn and counts what came, to the end of the input or where a call fails. The splitter at the end is one that
-// calls of `take_all` lead to. The turns are counted down from a number that no run uses up: a proved loop has to end.
-fn read_all(rt: &HostRuntime, hold: &mut [u8], piece: &mut [u8]) -> Read
-    ensures { Reached hold.old (between result.splitter hold.new) }
-{
-    let mut splitter = FrameSplitter::new();
-    let mut is_whole = false;
-    let mut turns = u64::MAX;
-    while turns > 0 {
-        let got = program::read(rt, b"noise", piece);
-        if got <= 0 {
-            is_whole = got == 0;
-            break;
-        }
-        let n = io::count(got, piece);
-        let counted = line_noise::take_all(splitter, hold, &piece[..n]);
-        splitter = counted.splitter;
-        let reply = counted.reply;
-        if !is_taken(rt, reply) {
-            break;
-        }
-        turns -= 1;
+// Each piece is counted. Between two pieces the splitter is one that calls of `take_all` lead to.
+impl Sink<8192> for Line {
+    ghost stands = { Between };
+
+    fn take(&mut self, rt: &HostRuntime, piece: &[u8]) -> bool {
+        let reply = line_noise::take_all(&mut self.splitter, &mut self.hold, piece);
+        is_taken(rt, reply)
     }
-    Read { splitter, is_whole }
 }
 
 // Whether a piece was taken. A refusal is told: more bytes came than can be counted, for the state is one that calls lead to.
-fn is_taken(rt: &HostRuntime, reply: ResultUnit) -> bool {
-    match reply {
-        ResultUnit::Ok => true,
-        ResultUnit::Err(_) => {
-            program::tell(rt, b"noise: more bytes came than 64 bits can count\n");
-            false
-        }
+fn is_taken(rt: &HostRuntime, reply: Result<(), WireError>) -> bool {
+    if reply.is_err() {
+        program::tell(rt, b"noise: more bytes came than 64 bits can count\n");
     }
+    reply.is_ok()
 }
 
 // The five lines; none after one that cannot be written.

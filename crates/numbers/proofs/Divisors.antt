@@ -1,20 +1,19 @@
--- The list of divisors keeps document 01's rule: each entry is the code of its number's rule (`listed`, one computed test over the 138),
--- and over such an entry a number that is no count is the rule's figure (`kept`). The decoders and the lookup both cite the two.
+-- The list of divisors keeps document 01's rule: each entry is the code of its number's rule (`listed`, one computed test over the 138); past the last that is the scale's (`rule-past`).
+-- Over such an entry a number that is no count is the rule's figure (`kept`). The decoders and the lookup cite the three.
 use mathlib.Core.Path.{◌≡◌, refl, ◌∙◌, ap}
 use mathlib.Core.List.{List, ◌∷◌, ◌++◌}
-use mathlib.Core.Bool.{Bool, cond}
-use Prim.Native.Nat.{ℕ, ◌+◌, ◌-◌, ◌<◌}
+use mathlib.Core.Bool.{Bool, false, cond, ◌&&◌, and-false}
+use Prim.Native.Nat.{ℕ, ◌+◌, ◌-◌, ◌<◌, ◌≤◌}
 use native.Mathlib.Omega.{arith}
-use lib.Dec.{eqb, eqb→eq, ltb}
+use lib.Dec.{eqb, eqb→eq, ltb, leb}
 use lib.ListN.{get_or, replicate}
 use lib.Ieee.{Float}
-use borrow.Author.Tests.{lt-ltb, le-ltb}
+use borrow.Author.Tests.{lt-ltb, le-ltb, lt-leb, ne_eqb}
 use Rattle.general.proofs.Table.{at}
 use Rattle.integer.specs.Fields.{scaled_by}
 use Rattle.numbers.specs.declared.Message.{Message}
 use Rattle.numbers.specs.declared.Message.TheVariants.{FlightResult, FlightResultV1, ClubResult}
-use Rattle.numbers.specs.Numbers.{Rule, count, hundredths, thousandths, millionths, scaled, shape_of, count_of, rule_of}
-use Rattle.numbers.specs.Private.{rule_code}
+use Rattle.numbers.specs.Numbers.{rule_code, Rule, count, hundredths, thousandths, millionths, scaled, shape_of, count_of, rule_of}
 use Rattle.numbers.specs.Numbers.{divisor_of, entry_of, whole_of, scale_of, figure_of}
 
 abbrev pub divisors : List ℕ
@@ -56,6 +55,38 @@ listed FlightResultV1 n h =
 listed ClubResult n h =
     let g : 83 + n - 83 ≡ n = omega arith in
     entry (83 + n) (inside ClubResult n h) ∙ simp (le-ltb (83 + n) 52 (omega arith), le-ltb (83 + n) 83 (omega arith), g)
+
+between : (a b n : ℕ) → b < n → (leb a n && leb n b) ≡ false
+between a b n h = simp (lt-leb n b h, and-false)
+
+-- past the last number no test of the rule holds, so it is the scale's
+pub rule-past : (m : Message) (n : ℕ) → count_of m ≤ n → rule_code (rule_of m n) ≡ 1
+unfolding rule_of
+rule-past FlightResult n h =
+    rw (ne_eqb n 0 (λ e. omega arith), between 14 19 n (omega arith), ne_eqb n 36 (λ e. omega arith), between 1 13 n (omega arith), between 20 35 n (omega arith))
+rule-past FlightResultV1 n h =
+    rw (
+      ne_eqb n 0 (λ e. omega arith),
+      ne_eqb n 11 (λ e. omega arith),
+      ne_eqb n 12 (λ e. omega arith),
+      ne_eqb n 15 (λ e. omega arith),
+      ne_eqb n 10 (λ e. omega arith),
+      between 1 9 n (omega arith),
+      ne_eqb n 13 (λ e. omega arith),
+      ne_eqb n 14 (λ e. omega arith),
+    )
+rule-past ClubResult n h =
+    rw (
+      ne_eqb n 0 (λ e. omega arith),
+      ne_eqb n 15 (λ e. omega arith),
+      between 1 6 n (omega arith),
+      between 9 12 n (omega arith),
+      between 52 54 n (omega arith),
+      ne_eqb n 7 (λ e. omega arith),
+      ne_eqb n 8 (λ e. omega arith),
+      ne_eqb n 13 (λ e. omega arith),
+      ne_eqb n 14 (λ e. omega arith),
+    )
 
 -- what an entry that is a rule's code stands for
 divides : (r : Rule) (s : Float) → (rule_code r ≡ 0 → ⊥) → entry_of (rule_code r) s ≡ divisor_of r s

@@ -10,8 +10,7 @@ use Rattle.error.specs.Refusal.{yes, no}
 use Rattle.integer.specs.Fields.{scaled_by}
 use Rattle.numbers.specs.declared.Message.{Message}
 use Rattle.numbers.specs.declared.Shape.{Shape}
-use Rattle.numbers.specs.Numbers.{shape_of, rule_of, entry_of, whole_of, scale_of, figure_of}
-use Rattle.numbers.specs.Private.{rule_code}
+use Rattle.numbers.specs.Numbers.{rule_code, shape_of, rule_of, entry_of, whole_of, scale_of, figure_of}
 use Rattle.numbers.specs.Asked.{whole, figure, field_rule, number_at}
 use Rattle.numbers.proofs.Laws.{counted, divided}
 use Rattle.numbers.proofs.Divisors.{kept}

@@ -1,5 +1,4 @@
 -- What the contracts of the messages by number cite.
--- Numbers and Asked are for a client; Listing is for private contracts.
+-- Numbers has what a message's numbers are, Asked the answers to a field asked for by number.
 pub mod Numbers
 pub mod Asked
-pub mod Private

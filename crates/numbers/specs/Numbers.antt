@@ -1,9 +1,10 @@
 -- Document 01, 'Messages': the numbers of D4, E8 and ED, and what each is divided by.
 -- A message's numbers are INT24 one after the other; each is a count, or is divided once.
-use Rattle.std.specs.Prelude.{ℕ, ◌+◌, ◌*◌, Bool, cond, ◌||◌, ◌&&◌, List, eqb, leb, ℤ, pos, negsuc, Float}
+use Rattle.std.specs.Prelude.{ℕ, ◌+◌, ◌*◌, Bool, cond, ◌||◌, ◌&&◌, List, [], ◌∷◌, eqb, leb, ℤ, pos, negsuc, Float}
 use Rattle.std.specs.Float.{binary64}
 use Rattle.std.specs.Float.Ieee.{of_int}
 use Rattle.general.specs.Number.{nonzero}
+use Rattle.error.specs.Refusal.{Told, yes, no}
 use Rattle.integer.specs.Fields.{int_at, scaled_by}
 use Rattle.numbers.specs.declared.Message.{Message}
 use Rattle.numbers.specs.declared.Message.TheVariants.{FlightResult, FlightResultV1, ClubResult}
@@ -16,6 +17,14 @@ abbrev pub shape_of : Message → Shape
 shape_of FlightResult = record { kind = 0xD4; least = 157; base = 1; count = 52; scale = 36; first = 0 }
 shape_of FlightResultV1 = record { kind = 0xE8; least = 94; base = 1; count = 31; scale = 15; first = 52 }
 shape_of ClubResult = record { kind = 0xED; least = 167; base = 2; count = 55; scale = 15; first = 83 }
+
+-- the message of a type byte; any other byte is refused with 11 and itself
+unfoldable pub message_rule : ℕ → Told Message
+message_rule b =
+    cond (eqb b 0xD4) (yes FlightResult)
+    (cond (eqb b 0xE8) (yes FlightResultV1)
+    (cond (eqb b 0xED) (yes ClubResult)
+    (no 11 (b ∷ []))))
 
 abbrev pub count_of : Message → ℕ
 count_of m = (shape_of m).count
@@ -84,6 +93,14 @@ unfoldable pub figure_of : Message → List ℕ → ℕ → Float
 figure_of m p n = scaled_by (divisor_of (rule_of m n) (scale_of m p)) (whole_of m p n)
 
 -- ---- the list of divisors
+
+-- how the list writes a rule: 0 for a count, 1 for the scale
+abbrev pub rule_code : Rule → ℕ
+rule_code count = 0
+rule_code hundredths = 100
+rule_code thousandths = 1000
+rule_code millionths = 1000000
+rule_code scaled = 1
 
 -- the divisor that an entry of the list stands for
 abbrev pub entry_of : ℕ → Float → Float

@@ -29,6 +29,7 @@ pub const ED: Shape = Shape {
     first: 83,
 };
 
+// One list of numbers, as document 01 names it: so 0 and 1 stand in it for the two rules that have no number.
 pub const DIVISORS: [u32; 138] = [
     // D4
     0, // 0 total

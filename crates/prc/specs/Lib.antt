@@ -1,2 +1,3 @@
 -- The points of EC: how many there are, and what each holds.
 pub mod Points
+pub mod Zeros

@@ -2,7 +2,7 @@
 // A program has no exit status of its own: it writes to standard error only what went wrong, and what is told there is the program's status.
 #![tactic(auto)]
 
-ghost use Rattle.std.specs.Prelude.{◌≡◌, true, [], leb, length};
+ghost use Rattle.std.specs.Prelude.{◌≡◌, ◌^◌, ◌<◌, ◌≤◌, true, [], leb, length};
 ghost use Rattle.program.specs.Counts.{Moved};
 
 use std::env::FillError;
@@ -31,15 +31,50 @@ pub fn alone(rt: &HostRuntime, args: usize, usage: &[u8]) -> bool
     alone
 }
 
-// One read of standard input, into a lent piece: how many bytes came, 0 at the end. A failure is told.
-pub fn read(rt: &HostRuntime, name: &[u8], piece: &mut [u8]) -> isize
+// What is done with the pieces of the input, each of at most N bytes, one after the other. Here and below a plain yes or no is
+// answered, for what failed has been told.
+pub trait Sink<const N: usize> {
+    // What is so between two pieces.
+    ghost stands: { Self → Type 0 };
+
+    // One piece. Answers whether the next one is to be read.
+    fn take(&mut self, rt: &HostRuntime, piece: &[u8]) -> bool
+        requires between { stands self.old }
+        requires room { length piece.now ≤ N }
+        ensures { stands self.new };
+}
+
+// Standard input, piece by piece, to its end, or to where a read fails or the sink wants no more. Answers whether that was the end.
+// A proved loop has to end, and nothing says that the input does: no run reads so many pieces as are counted here.
+pub fn read_all<const N: usize, S: Sink<N>>(rt: &HostRuntime, name: &[u8], sink: &mut S) -> bool
+    requires between { S.stands sink.old }
+    requires size { N < 2 ^ 63 }
+    ensures { S.stands sink.new }
+{
+    let mut piece = [0u8; N];
+    for _ in 0..u64::MAX {
+        match read(rt, name, &mut piece) {
+            Some(0) => return true,
+            Some(n) => {
+                if !sink.take(rt, &piece[..n]) {
+                    return false;
+                }
+            }
+            None => return false,
+        }
+    }
+    false
+}
+
+// One read of standard input, into a lent piece: how many bytes came, 0 at the end. A failure is told, and then there is no number.
+pub fn read(rt: &HostRuntime, name: &[u8], piece: &mut [u8]) -> Option<usize>
     ensures { Moved (length piece.old) result }
 {
     match rt.stdin().read(piece) {
-        Ok(n) => n as isize,
+        Ok(n) => Some(n),
         Err(reason) => {
             fail(rt, name, b": standard input cannot be read: ", reason);
-            -1
+            None
         }
     }
 }

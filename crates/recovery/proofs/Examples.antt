@@ -10,7 +10,7 @@ use Rattle.splitter.specs.Feed.{new, ends, going_on, runs, feed_rule, more, over
 use Rattle.error.specs.Refusal.{yes}
 use Rattle.stream.specs.Stream.{Call, call, joined}
 use Rattle.stream.proofs.Calls.{stands-fresh, stands_good}
-use Rattle.splitter.proofs.One.{event_of}
+use Rattle.splitter.proofs.One.{event_of, reply_of}
 use Rattle.stream.proofs.Ends.{past, one_chunk, all_end}
 use Rattle.recovery.specs.Recovery.{pending}
 
@@ -34,7 +34,7 @@ after-closed :
     ∷ call (0x01 ∷ 0x00 ∷ 0x51 ∷ 0xF1 ∷ []) (yes (frame a))
     ∷ call a (yes (frame a))
     ∷ []
-unfolding index_of ends going_on runs feed_rule event_of past one_chunk all_end
+unfolding index_of ends going_on runs feed_rule event_of reply_of past one_chunk all_end
 after-closed = refl
 
 -- ---- F0 05 has no end: with the first frame it is one of nine bytes
@@ -48,7 +48,7 @@ after-unclosed :
     ∷ call (0x10 ∷ 0x01 ∷ 0x00 ∷ 0x51 ∷ 0xF1 ∷ []) (yes (frame (0xF0 ∷ 0x05 ∷ a)))
     ∷ call a (yes (frame a))
     ∷ []
-unfolding index_of ends going_on runs feed_rule event_of past one_chunk all_end
+unfolding index_of ends going_on runs feed_rule event_of reply_of past one_chunk all_end
 after-unclosed = refl
 
 after-unclosed-long :
@@ -57,17 +57,17 @@ after-unclosed-long :
     ∷ call (0x10 ∷ 0x01 ∷ 0x00 ∷ 0x51 ∷ 0xF1 ∷ []) (yes overlong)
     ∷ call a (yes (frame a))
     ∷ []
-unfolding index_of ends going_on runs feed_rule event_of past one_chunk all_end
+unfolding index_of ends going_on runs feed_rule event_of reply_of past one_chunk all_end
 after-unclosed-long = refl
 
 -- ---- seven bytes in a hold buffer of seven, and of six
 
 exactly : over 7 ((0xF0 ∷ 0x40 ∷ 0x10 ∷ []) ∷ (0x01 ∷ 0x00 ∷ 0x51 ∷ 0xF1 ∷ []) ∷ []) (lit≤ tt) ≡
     call (0xF0 ∷ 0x40 ∷ 0x10 ∷ []) (yes more) ∷ call (0x01 ∷ 0x00 ∷ 0x51 ∷ 0xF1 ∷ []) (yes (frame a)) ∷ []
-unfolding index_of ends going_on runs feed_rule event_of past one_chunk all_end
+unfolding index_of ends going_on runs feed_rule event_of reply_of past one_chunk all_end
 exactly = refl
 
 one_less : over 6 ((0xF0 ∷ 0x40 ∷ 0x10 ∷ []) ∷ (0x01 ∷ 0x00 ∷ 0x51 ∷ 0xF1 ∷ []) ∷ []) (lit≤ tt) ≡
     call (0xF0 ∷ 0x40 ∷ 0x10 ∷ []) (yes more) ∷ call (0x01 ∷ 0x00 ∷ 0x51 ∷ 0xF1 ∷ []) (yes overlong) ∷ []
-unfolding index_of ends going_on runs feed_rule event_of past one_chunk all_end
+unfolding index_of ends going_on runs feed_rule event_of reply_of past one_chunk all_end
 one_less = refl

@@ -8,8 +8,8 @@ use lib.ListN.{length, drop, length-append}
 use Rattle.addr.specs.declared.BusAddr.{BusAddr}
 use Rattle.addr.specs.Address.{byte_of}
 use Rattle.error.specs.Refusal.{Told, yes, on_yes, filled}
-use Rattle.error.specs.declared.ResultUsize.TheVariants.{Ok}
-use Rattle.error.proofs.Decides.{one-usize}
+use Rattle.std.specs.declared.result.Result.TheVariants.{Ok}
+use Rattle.error.proofs.Decides.{one-told}
 use Rattle.stuffing.specs.Stuff.{sum16}
 use Rattle.encoding.specs.Wire.{fields, body_of, checksum_of, wire_of}
 use Rattle.encoding.specs.Encode.{encode_rule}
@@ -70,4 +70,4 @@ encode-sends-alike κs a r x p {out} {end} {sum} {n} s e l h =
     encoded a.0 a.1.0 a.1.1.0 a.1.1.1.0.now s e l (length old) h in
     let k : length (wire_sent out end) ≡ n + length end + 2 = sent-length out end ∙ rw (measured s) in
     let b : filled (yes (wire_sent out end)) old ≡ wire_sent out end ++ drop (n + length end + 2) old = ap (λ (m : ℕ). wire_sent out end ++ drop m old) k in
-    (one-usize (p.0 ∙ ap (on_yes length) t ∙ ap yes k) refl, p.1 ∙ ap (λ (u : Told (List ℕ)). filled u old) t ∙ b)
+    (one-told (p.0 ∙ ap (on_yes length) t ∙ ap yes k) refl, p.1 ∙ ap (λ (u : Told (List ℕ)). filled u old) t ∙ b)

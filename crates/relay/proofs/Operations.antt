@@ -10,10 +10,11 @@ use denote.Ref.{Bor}
 use Rattle.general.proofs.Cases.{by-eq}
 use Rattle.general.proofs.One.{plain}
 use Rattle.error.specs.Refusal.{yes, on_yes}
-use Rattle.error.specs.Result.{told_usize}
-use Rattle.error.specs.declared.ResultUsize.{ResultUsize}
-use Rattle.error.specs.declared.ResultUsize.TheVariants.{Ok}
-use Rattle.error.proofs.Decides.{one-usize}
+use Rattle.std.specs.Prelude.{Result}
+use Rattle.std.specs.declared.result.Result.TheVariants.{Ok}
+use Rattle.error.specs.declared.WireError.{WireError}
+use Rattle.error.proofs.Decides.{one-told}
+use Rattle.error.specs.Result.{told}
 use Rattle.stuffing.specs.Stuff.{escape_of, stuff, sum16}
 use Rattle.stuffing.specs.declared.summing.Stuffed.{Stuffed}
 use Rattle.stuffing.proofs.Codes.{plain as stands, escaped}
@@ -41,7 +42,7 @@ more-answer p = p.4.0 ∙ ap (λ (l : List ℕ). (length (stuff l) - length l) %
 pub sum-answer : {s : List ℕ} {a : Stuffed} → Tally s a → a.sum ≡ sum16 (stuff s)
 sum-answer p = p.4.1 ∙ ap (λ (l : List ℕ). sum16 (stuff l)) p.3
 
-unstuffed-answer : {w : List ℕ} (r : ResultUsize) → Unstuffed w r → told_usize r ≡ on_yes length (unstuff 0 w)
+unstuffed-answer : {w : List ℕ} (r : Result ℕ WireError) → Unstuffed w r → told r ≡ on_yes length (unstuff 0 w)
 unstuffed-answer r p = p.4 ∙ ap (λ (l : List ℕ). on_yes length (unstuff 0 l)) p.3
 
 -- ---- there is an answer: of a call's lifetime and of where its slice lies no contract here speaks
@@ -103,6 +104,6 @@ operations =
       );
       sum_ahead = λ a p c. rw (sum-answer a, checksum-answer c, written-stuffed p);
       length_ahead = λ {s} h a p. rw (written-stuffed p) (omega (arith, tallied s (more-answer a) h));
-      back = λ {s} {w} p. (called unstuffed.Post w (Ok (length s)) (sym (unstuffs-to p)), λ r u. one-usize (unstuffed-answer r u ∙ unstuffs-to p) refl);
+      back = λ {s} {w} p. (called unstuffed.Post w (Ok (length s)) (sym (unstuffs-to p)), λ r u. one-told (unstuffed-answer r u ∙ unstuffs-to p) refl);
       apart = λ {s} {t} p q. laws.apart s t (sym (written-stuffed p) ∙ written-stuffed q);
     }

@@ -1,8 +1,9 @@
 -- Request 11, "over the operations as they stand": what `escape_code`, `checksum`, `tally` and `unstuffed` answer, by their contracts as the check
 -- reads them off src/ (`Post`), so that a caller needs no definition of ours. The theorem `operations` (proofs/Operations) has this type.
 use Rattle.std.specs.Prelude.{ℕ, ◌+◌, ◌%◌, ◌≤◌, ◌≡◌, List, [], ◌∷◌, ◌++◌, length}
-use Rattle.error.specs.declared.ResultUsize.{ResultUsize}
-use Rattle.error.specs.declared.ResultUsize.TheVariants.{Ok}
+use Rattle.std.specs.Prelude.{Result}
+use Rattle.std.specs.declared.result.Result.TheVariants.{Ok}
+use Rattle.error.specs.declared.WireError.{WireError}
 use Rattle.stuffing.specs.declared.summing.Stuffed.{Stuffed}
 use Rattle.stuffing.proofs.escape_code.Reads as escape-code
 use Rattle.stuffing.proofs.checksum.Reads as checksum
@@ -24,7 +25,7 @@ Checksum = Allows checksum.Post (λ κs a. a.0.now)
 abbrev pub Tally : List ℕ → Stuffed → Type 0
 Tally = Allows tally.Post (λ κs a. a.0.now)
 
-abbrev pub Unstuffed : List ℕ → ResultUsize → Type 0
+abbrev pub Unstuffed : List ℕ → Result ℕ WireError → Type 0
 Unstuffed = Allows unstuffed.Post (λ κs a. a.0.now)
 
 -- a string and how it is written: each byte as it stands where `escape_code` answers 0, else FD and that answer
@@ -56,5 +57,5 @@ pub record Operations : Type 0 where
   -- and, of a string of 65,535 bytes at most, how long that will be
   pub length_ahead : {s w : List ℕ} {a : Stuffed} → length s ≤ 65535 → Tally s a → WrittenAs s w → length w ≡ length s + a.more
   -- "Unstuffing a stuffed string gives it back, and two different strings never stuff alike.": `unstuffed` may answer the length, and nothing else
-  pub back : {s w : List ℕ} → WrittenAs s w → Unstuffed w (Ok (length s)) × ((r : ResultUsize) → Unstuffed w r → r ≡ Ok (length s))
+  pub back : {s w : List ℕ} → WrittenAs s w → Unstuffed w (Ok (length s)) × ((r : Result ℕ WireError) → Unstuffed w r → r ≡ Ok (length s))
   pub apart : {s t w : List ℕ} → WrittenAs s w → WrittenAs t w → s ≡ t

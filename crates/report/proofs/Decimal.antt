@@ -1,14 +1,10 @@
 -- The decimal text of a number: its two cases, how long it is, that it decides the number, that no zero is spare.
 -- A proof about a number goes by its last digit and the tenth part before it (`by-tens`).
-use Prim.Native.Nat.{ℕ, zero, suc, ◌+◌, ◌-◌, ◌*◌, ◌/◌, ◌%◌, ◌^◌, ◌<◌, ◌≤◌}
-use mathlib.Core.Path.{◌≡◌, refl, sym, ap, ◌∙◌}
-use mathlib.Core.List.{List, [], ◌∷◌, ◌++◌}
-use native.Mathlib.Omega.{arith}
-use native.Mathlib.Nat.{pow-suc, div-lt_iff_lt-mul}
-use lib.Dec.{lit<}
-use lib.ListN.{length, get_or, length-append, get_or-append}
-use borrow.Author.Tests.{lt-ltb, le-ltb}
+use Rattle.std.proofs.Common.{ℕ, zero, suc, ◌+◌, ◌-◌, ◌*◌, ◌/◌, ◌%◌, ◌^◌, ◌<◌, ◌≤◌, ◌≡◌, refl, sym, ap, ◌∙◌, List, [], ◌∷◌, ◌++◌, arith, pow-suc, div-lt_iff_lt-mul, lit<, length, get_or, length-append, lt-ltb, le-ltb}
+use lib.ListN.{get_or-append}
 use Rattle.general.proofs.Cases.{by-lt}
+use Rattle.std.proofs.lemmas.Fmt.{decimal_digit, decimal_step}
+use Rattle.std.specs.Fmt.{decimal}
 use Rattle.report.specs.Text.{decimal_in, decimal_of}
 
 -- ---- the two cases
@@ -77,8 +73,18 @@ decimal-most (suc k) n h =
     let m : n / 10 < 10 ^ suc k = (div-lt_iff_lt-mul (lit< tt)).1 (rw (← pow-suc) h) in
     omega (arith, length-large n q, decimal-most k (n / 10) m))
 
-pub decimal-20 : (n : ℕ) → n < 2 ^ 64 → length (decimal_of n) ≤ 20
-decimal-20 n h = decimal-most 19 n (omega arith)
+pub three_digits : (n : ℕ) → n < 2 ^ 8 → length (decimal_of n) ≤ 3
+three_digits n h = decimal-most 2 n (omega arith)
+
+-- ---- it is what the library writes
+
+pub as_written : (n : ℕ) → n < 2 ^ 64 → decimal n ≡ decimal_of n
+as_written =
+    by-tens (λ (n : ℕ). n < 2 ^ 64 → decimal n ≡ decimal_of n)
+    (λ n h f. decimal_digit n h ∙ sym (decimal-small n h))
+    (λ n h ih f.
+    let e = ih (omega arith) in
+    decimal_step n h f ∙ ap (λ (l : List ℕ). l ++ ((0x30 + n % 10) ∷ [])) e ∙ sym (decimal-large n h))
 
 -- ---- it decides the number, and has no spare zero
 

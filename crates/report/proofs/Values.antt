@@ -1,11 +1,6 @@
--- A refusal's values as text, one after the other: one more of them, the room for it, how long they are.
+-- A refusal's values as text, one after the other: one more of them.
 -- No refusal has more than three values (`at-most-3`).
-use Prim.Native.Nat.{ℕ, zero, suc, ◌+◌, ◌<◌, ◌≤◌}
-use mathlib.Core.Path.{◌≡◌, sym, ap, ◌∙◌}
-use mathlib.Core.List.{List, [], ◌∷◌, ◌++◌, map, append_assoc, append-nil}
-use native.Mathlib.Omega.{arith}
-use lib.Dec.{lit≤}
-use lib.ListN.{length, take, get_or, length-append}
+use Rattle.std.proofs.Common.{◌≡◌, ℕ, zero, suc, ◌<◌, ◌≤◌, List, [], ◌∷◌, ◌++◌, map, length, take, get_or, sym, ap, ◌∙◌, append_assoc, append-nil, arith, lit≤}
 use Rattle.error.specs.declared.WireError.{WireError}
 use Rattle.error.specs.declared.WireError.TheVariants as refusal
 use Rattle.error.specs.Refusal.{values_of}
@@ -21,17 +16,6 @@ one_more (v ∷ vs) zero h = ap (λ (l : List ℕ). 0x20 ∷ l) (sym (append-nil
 one_more (v ∷ vs) (suc i) h =
     ap (λ (l : List ℕ). 0x20 ∷ l)
     (append_assoc (decimal_of v) (values_text (take i vs)) (0x20 ∷ decimal_of (get_or vs i 0)) ∙ ap (λ (l : List ℕ). decimal_of v ++ l) (one_more vs i (omega arith)))
-
-pub room-for : (vs : List ℕ) (i : ℕ) → i < length vs → length (values_text (take i vs)) + (length (decimal_of (get_or vs i 0)) + 1) ≤ length (values_text vs)
-room-for [] i h = absurd (let q : ⊥ = omega arith in q)
-room-for (v ∷ vs) zero h = omega (arith, length-append (decimal_of v) (values_text vs))
-room-for (v ∷ vs) (suc i) h =
-    omega (arith, length-append (decimal_of v) (values_text vs), length-append (decimal_of v) (values_text (take i vs)), room-for vs i (omega arith))
-
-pub wider : (vs : List ℕ) (i : ℕ) → i < length vs
-    → length (values_text (take (suc i) vs)) ≡ length (values_text (take i vs)) + (length (decimal_of (get_or vs i 0)) + 1)
-wider vs i h =
-    sym (ap length (one_more vs i h)) ∙ length-append (values_text (take i vs)) (0x20 ∷ decimal_of (get_or vs i 0)) ∙ omega arith
 
 pub at-most-3 : (e : WireError) → length (values_of e) ≤ 3
 at-most-3 (refusal.FrameTooShort len) = lit≤ tt

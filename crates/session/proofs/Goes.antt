@@ -3,11 +3,10 @@
 use Rattle.std.proofs.Common.{ℕ, zero, suc, ◌+◌, ◌^◌, ◌<◌, ◌≤◌, List, [], ◌∷◌, length, drop, replicate, not-suc-le-zero, arith, length-append, length-drop}
 use lib.ListN.{length-replicate}
 use Rattle.error.specs.Refusal.{yes, filled}
-use Rattle.error.specs.declared.ResultUsize.TheVariants.{Ok}
+use Rattle.std.specs.declared.result.Result.TheVariants.{Ok}
 use Rattle.splitter.proofs.Laws.{CanCount, can-take, counts-on}
 use Rattle.stream.specs.Stream.{joined}
 use Rattle.stream.proofs.Calls.{Stands, stands-fresh, stands_good, one-call}
-use Rattle.session.specs.declared.Ran.{Ran}
 use Rattle.session.specs.Piece.{Stage, fed, stage_after, works, room_for}
 use Rattle.session.specs.Program.{first, Pieces, done, piece}
 use Rattle.session.proofs.Rules.{piece-fits}
@@ -39,9 +38,8 @@ goes_on t (c ∷ cs) s =
     let count : CanCount t.session.splitter (length c + length (joined cs)) = rw (length-append c (joined cs)) at s.count in
     let now : Ready t (length c + length (joined cs)) = record { bytes = s.bytes; stands = s.stands; count = count } in
     let rest = goes_on w.stage cs (still-ready (length c) t c (length (joined cs)) now (omega arith)) in
-    let r : Ran = record { reply = Ok (length w.text); session = w.stage.session } in
     let fits = piece-fits t c out (stands_good s.stands) (can-take t.session.splitter (length c) (length c + length (joined cs)) (omega arith) count) room in
-    (_, (rest.1.0, piece out r w.stage.hold (filled (yes w.text) out) room fits rest.1.1))
+    (_, (rest.1.0, piece out (Ok (length w.text)) w.stage.session w.stage.hold (filled (yes w.text) out) room fits rest.1.1))
 
 pub goes : (h : List ℕ) (cs : List (List ℕ)) → length (joined cs) < 2 ^ 64 → (text : List ℕ) × ((t : Stage) × Pieces (first h) cs text t)
 goes h cs below = goes_on (first h) cs (record { bytes = []; stands = stands-fresh h; count = omega arith })

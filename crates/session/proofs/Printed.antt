@@ -3,21 +3,23 @@
 use Rattle.std.proofs.Common.{◌≡◌, ℕ, zero, suc, ◌+◌, ◌^◌, ◌<◌, ◌≤◌, false, List, [], ◌∷◌, ◌++◌, map, length, drop, sym, refl, ap, ◌∙◌, subst, append_assoc, not-suc-le-zero, arith, length-append, length-drop, le-leb}
 use lib.Seq.{take-append_seam}
 use borrow.Author.Tests.{lt-leb}
+use Rattle.std.specs.Prelude.{Result}
+use Rattle.error.specs.declared.WireError.{WireError}
 use Rattle.error.specs.Refusal.{Told, yes, no, on_yes, filled}
-use Rattle.error.specs.Result.{told_usize}
+use Rattle.error.specs.Result.{told}
 use Rattle.splitter.specs.declared.FrameSplitter.{FrameSplitter}
-use Rattle.splitter.specs.Feed.{Given, new, told_event, is_bad, is_full, more, overlong, frame}
+use Rattle.splitter.specs.Feed.{Given, new, told_event, taken_of, is_bad, is_full, more, overlong, frame}
 use Rattle.stream.specs.Stream.{Said, said_of, Call, Calls, Feeds, joined, unless_more, answers, answer_to}
 use Rattle.stream.specs.Stream as stream
 use Rattle.stream.specs.Rust.{rust_frames, rust_left}
 use Rattle.stream.proofs.Calls.{Stands, fits, long, stands-fresh, stands_good, Agrees, one-call}
-use Rattle.splitter.proofs.One.{fed_of}
+use Rattle.splitter.proofs.One.{reply_of}
 use Rattle.splitter.proofs.Laws.{CanCount, can-take, counts-on}
-use Rattle.stream.proofs.Ends.{allowed, feeds-calls}
+use Rattle.stream.proofs.Ends.{allowed, replied, feeds-calls}
 use Rattle.stream.proofs.Stream.{follows-fresh}
 use Rattle.stream.proofs.Rust.{as-the-rust, line-leaves}
 use Rattle.report.specs.Line.{end_text, fitted, Lined}
-use Rattle.session.specs.declared.Ran.{Ran}
+use Rattle.session.specs.declared.Session.{Session}
 use Rattle.session.specs.Lines.{line_to, number_to, lines_of, end_to}
 use Rattle.session.specs.Piece.{Stage, stage, fed, said, stage_after, event_text}
 use Rattle.session.specs.Piece.{Work, work, behind, works, room_for, Done, piece_rule, front_of, done_by}
@@ -50,10 +52,10 @@ line-shown {text} {old} l h =
 
 -- A piece that is not refused: what is read back are its lines, and the session and the hold buffer at exit are where the work ends.
 pub piece-does :
-    (t : Stage) (c out : List ℕ) (r : Ran) (h out' : List ℕ) → done_by r h out' ≡ piece_rule t c out
+    (t : Stage) (c out : List ℕ) (r : Result ℕ WireError) (s : Session) (h out' : List ℕ) → done_by r s h out' ≡ piece_rule t c out
     → is_bad t.session.splitter (length t.hold) ≡ false → is_full t.session.splitter (length c) ≡ false → room_for (length c) ≤ length out
-    → (front_of (told_usize r.reply) out' ≡ (works (length c) t c).text) × (stage r.session h ≡ (works (length c) t c).stage)
-piece-does t c out r h out' e good free room =
+    → (front_of (told r) out' ≡ (works (length c) t c).text) × (stage s h ≡ (works (length c) t c).stage)
+piece-does t c out r s h out' e good free room =
     let q = e ∙ sym (piece-fits t c out good free room) in
     let text = (works (length c) t c).text in
     ((λ i. front_of (q i).reply (q i).out) ∙ front text (drop (length text) out), ap (λ (d : Done). d.stage) q)
@@ -91,11 +93,16 @@ one_piece (suc k) t (b ∷ c) cs w v s l count rest =
     one_piece k t' (drop g.taken d) cs w _ a.stands le count' rest
     in
     let e = allowed t.session.splitter t.hold d in
-    let q : said_of d g.hold (told_event (fed_of g).event) ≡ said t d = ap (λ (x : Given). said_of d g.hold x.answer) e in
+    let reply = reply_of g.answer g.taken in
+    let w' : Work = behind (works k t' (drop g.taken d)).text w in
+    let rest : Feeds g.state g.hold (drop (taken_of reply) d ∷ cs) r.trace w'.stage.session.splitter w'.stage.hold =
+    rw (replied t.session.splitter t.hold d).1 r.feeds
+    in
+    let q : said_of d g.hold (told_event reply) ≡ said t d = ap (λ (x : Given). said_of d g.hold x.answer) e in
     let n = t.session.number in
     record {
       trace = _;
-      feeds = stream.Feeds.feed (fed_of g) g.hold e r.feeds;
+      feeds = stream.Feeds.feed reply g.state g.hold e rest;
       text =
           append_assoc (event_text t d) (works k t' (drop g.taken d)).text w.text
           ∙ ap (λ (x : List ℕ). event_text t d ++ x) r.text
@@ -105,9 +112,9 @@ one_piece (suc k) t (b ∷ c) cs w v s l count rest =
 
 traced : {t t' : Stage} {cs : List (List ℕ)} {text : List ℕ} → Pieces t cs text t' → After t cs (work text t')
 traced program.Pieces.done v s n = record { trace = []; feeds = stream.Feeds.done; text = refl }
-traced {t} {t'} (program.Pieces.piece {c = c} {cs = cs} {text = text} out r h out' room e rest) v s n =
+traced {t} {t'} (program.Pieces.piece {c = c} {cs = cs} {text = text} out r s' h out' room e rest) v s n =
     let count : CanCount t.session.splitter (length c + length (joined cs)) = rw (length-append c (joined cs)) at n in
-    let d = piece-does t c out r h out' e (stands_good s) (can-take t.session.splitter (length c) (length c + length (joined cs)) (omega arith) count) room in
+    let d = piece-does t c out r s' h out' e (stands_good s) (can-take t.session.splitter (length c) (length c + length (joined cs)) (omega arith) count) room in
     let after : After (works (length c) t c).stage cs (work text t') = subst (λ (y : Stage). After y cs (work text t')) d.1 (λ v' s' n'. traced rest v' s' n') in
     rw d.0 (one_piece (length c) t c cs (work text t') v s (omega arith) count after)
 

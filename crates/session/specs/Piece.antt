@@ -1,12 +1,13 @@
 -- One piece of the input: the splitter is fed until all of it is taken, and each event's line is put behind the last.
 -- The rule fixes the reply, the session, and every byte of the two lent buffers.
 use Rattle.std.specs.Prelude.{ℕ, zero, suc, ◌-◌, ◌*◌, ◌^◌, min, cond, List, [], ◌∷◌, ◌++◌, length, take, drop, nat_le, nat_lt}
+use Rattle.std.specs.Prelude.{Result}
+use Rattle.error.specs.declared.WireError.{WireError}
 use Rattle.error.specs.Refusal.{Told, yes, no, on_yes, filled}
-use Rattle.error.specs.Result.{told_usize}
+use Rattle.error.specs.Result.{told}
 use Rattle.splitter.specs.Feed.{Given, feed_rule, is_bad, is_full}
 use Rattle.stream.specs.Stream.{Said, said_of}
 use Rattle.session.specs.declared.Session.{Session}
-use Rattle.session.specs.declared.Ran.{Ran}
 use Rattle.session.specs.Lines.{line_to, number_to}
 
 -- where the work stands: the session and the hold buffer
@@ -62,8 +63,8 @@ pub record Done : Type 0 where
 abbrev pub done : Told (List ℕ) → Stage → List ℕ → Done
 done text t out = record { reply = on_yes length text; stage = t; out = filled text out }
 
-abbrev pub done_by : Ran → List ℕ → List ℕ → Done
-done_by r h out = record { reply = told_usize r.reply; stage = stage r.session h; out = out }
+abbrev pub done_by : Result ℕ WireError → Session → List ℕ → List ℕ → Done
+done_by r s h out = record { reply = told r; stage = stage s h; out = out }
 
 -- the lines of the whole piece
 abbrev pub all_lines : Stage → List ℕ → List ℕ → Done

@@ -3,15 +3,16 @@
 #![tactic(auto)]
 
 ghost use Rattle.std.specs.Prelude.{◌≡◌, ◌*◌, ◌≤◌, false, length};
-ghost use Rattle.error.specs.Result.{told_usize};
 ghost use Rattle.error.specs.Refusal.{yes};
-ghost use Rattle.splitter.specs.Feed.{new, is_bad, is_full, frame};
+ghost use Rattle.error.specs.Result.{told};
+ghost use Rattle.splitter.specs.Feed.{new, is_bad, is_full, frame, answer_of};
+ghost use Rattle.stream.specs.Stream.{said_of};
 ghost use Rattle.report.specs.Line.{long_text};
 ghost use Rattle.session.specs.Lines.{line_to};
 ghost use Rattle.session.specs.Piece.{stage, room_for, all_lines, piece_rule, front_of, done_by};
-ghost use Rattle.session.specs.Private.{count_of, Wrote, step_of, Stepped};
+ghost use Rattle.session.specs.Private.{Wrote, numbered};
 
-use error::{ResultUsize, WireError};
+use error::WireError;
 use frame::RawFrame;
 use splitter::{Event, FrameSplitter};
 
@@ -20,13 +21,6 @@ use splitter::{Event, FrameSplitter};
 pub struct Session {
     pub splitter: FrameSplitter,
     pub number: u64,
-}
-
-// How many bytes of lines a piece gave, and the session for the next piece.
-#[derive(Drop)]
-pub struct Ran {
-    pub reply: ResultUsize,
-    pub session: Session,
 }
 
 impl Session {
@@ -39,49 +33,73 @@ impl Session {
         }
     }
 
-    // All of a piece: the lines of its events at the front of out.
-    pub fn piece(self, hold: &mut [u8], chunk: &[u8], out: &mut [u8]) -> Ran
-        ensures { done_by result hold.new out.new ≡
-            piece_rule (stage self hold.old) chunk.now out.old }
+    // All of a piece: the lines of its events at the front of out, and how many bytes they have. What is refused alters nothing. The three
+    // buffers are the caller's, lent for one call.
+    pub fn piece(
+        &mut self,
+        hold: &mut [u8],
+        chunk: &[u8],
+        out: &mut [u8],
+    ) -> Result<usize, WireError>
+        ensures { done_by result self.new hold.new out.new ≡
+            piece_rule (stage self.old hold.old) chunk.now out.old }
     {
-        let splitter = self.splitter;
-        if splitter.is_bad(hold.len()) {
-            return Ran {
-                reply: ResultUsize::Err(WireError::BadState),
-                session: self,
-            };
+        if self.splitter.is_bad(hold.len()) {
+            return Err(WireError::BadState);
         }
-        if splitter.is_full(chunk.len()) {
-            return Ran {
-                reply: ResultUsize::Err(WireError::CounterFull),
-                session: self,
-            };
+        if self.splitter.is_full(chunk.len()) {
+            return Err(WireError::CounterFull);
         }
         let need = room_for(chunk.len());
         let got = out.len();
         if got < need {
-            return Ran {
-                reply: ResultUsize::Err(WireError::NoRoom { need, got }),
-                session: self,
-            };
+            return Err(WireError::NoRoom { need, got });
         }
-        all_lines(self, hold, chunk, out)
+        Ok(self.all_lines(hold, chunk, out))
+    }
+
+    // The lines of a piece's events, one behind the other, and how many bytes they have. No call of the splitter is refused.
+    fn all_lines(&mut self, hold: &mut [u8], chunk: &[u8], out: &mut [u8]) -> usize
+        requires hold_value { (is_bad self.old.splitter (length hold.old) ≡ false) × (is_full self.old.splitter (length chunk.now) ≡ false) }
+        requires chunk_in_bounds { 128 * length chunk.now ≤ length out.old }
+        ensures { done_by (Ok result) self.new hold.new out.new ≡
+            all_lines (stage self.old hold.old) chunk.now out.old }
+    {
+        let mut rest = chunk;
+        let mut written = 0;
+        while !rest.is_empty() {
+            let fed = self.splitter.feed(hold, rest).unwrap();
+            written += self.put(fed.event, rest, hold, &mut out[written..]);
+            rest = &rest[fed.taken..];
+        }
+        written
+    }
+
+    // The line of an event at the front of out; More has none.
+    fn put(&mut self, event: Event, chunk: &[u8], hold: &[u8], out: &mut [u8]) -> usize
+        requires { 128 ≤ length out.old }
+        ensures after { self.new ≡ numbered self.old (said_of chunk.now hold.now (yes (answer_of event))) }
+        ensures line { Wrote (line_to self.old.number (said_of chunk.now hold.now (yes (answer_of event)))) out.old result out.new }
+    {
+        let number = self.number;
+        let written = match event {
+            Event::More => return 0,
+            Event::Frame(place) => put_frame(number, view::view(chunk, hold, place), out),
+            Event::Overlong => put_long(number, out),
+        };
+        self.number = number.wrapping_add(1);
+        written
     }
 }
 
 // The lines that a call put at the front of out; none of what was refused.
-pub fn text_of<'a>(reply: ResultUsize, out: &'a [u8]) -> &'a [u8]
-    ensures bytes { result.now ≡ front_of (told_usize reply) out.now }
+pub fn text_of<'a>(reply: Result<usize, WireError>, out: &'a [u8]) -> &'a [u8]
+    ensures bytes { result.now ≡ front_of (told reply) out.now }
     ensures place { result.ref_ptr ≡ out.entry.ref_ptr }
 {
     match reply {
-        ResultUsize::Ok(n) => {
-            if n <= out.len() {
-                return &out[..n];
-            }
-            &out[..0]
-        }
-        ResultUsize::Err(_) => &out[..0],
+        Ok(n) if n <= out.len() => &out[..n],
+        _ => &out[..0],
     }
 }
 
@@ -89,77 +107,7 @@ pub fn text_of<'a>(reply: ResultUsize, out: &'a [u8]) -> &'a [u8]
 fn room_for(len: usize) -> usize
     ensures { result ≡ room_for len }
 {
-    if len < 0x200_0000_0000_0000 {
-        128 * len
-    } else {
-        0xFFFF_FFFF_FFFF_FFFF
-    }
-}
-
-// The lines of a piece's events, one behind the other.
-fn all_lines(start: Session, hold: &mut [u8], chunk: &[u8], out: &mut [u8]) -> Ran
-    requires hold_value { (is_bad start.splitter (length hold.old) ≡ false) × (is_full start.splitter (length chunk.now) ≡ false) }
-    requires chunk_in_bounds { 128 * length chunk.now ≤ length out.old }
-    ensures { done_by result hold.new out.new ≡
-        all_lines (stage start hold.old) chunk.now out.old }
-{
-    let mut session = start;
-    let mut at = 0;
-    let mut written = 0;
-    while at < chunk.len() {
-        let step = next_event(session, hold, &chunk[at..], &mut out[written..]);
-        session = step.session;
-        at += step.taken;
-        written += step.written;
-    }
-    Ran {
-        reply: ResultUsize::Ok(written),
-        session,
-    }
-}
-
-#[derive(Drop)]
-struct Step {
-    session: Session,
-    taken: usize,
-    written: usize,
-}
-
-// One call of the splitter: its event's line at the front of out.
-fn next_event(session: Session, hold: &mut [u8], chunk: &[u8], out: &mut [u8]) -> Step
-    requires { 128 ≤ length out.old }
-    ensures { Stepped (stage session hold.old) chunk.now out.old result hold.new out.new }
-{
-    let number = session.number;
-    let before = session.splitter;
-    let fed = before.feed(hold, chunk);
-    let taken = fed.taken;
-    let splitter = fed.splitter;
-    let event = fed.event;
-    let next = std::num::wrapping_add_u64(number, 1);
-    match event {
-        Event::Frame(place) => {
-            let wire = view::view(chunk, hold, place);
-            let written = put_frame(number, wire, out);
-            stepped_to(splitter, next, taken, written)
-        }
-        Event::Overlong => {
-            let written = put_long(number, out);
-            stepped_to(splitter, next, taken, written)
-        }
-        Event::More => stepped_to(splitter, number, taken, 0),
-        Event::Err(_) => stepped_to(splitter, number, taken, 0),
-    }
-}
-
-fn stepped_to(splitter: FrameSplitter, number: u64, taken: usize, written: usize) -> Step
-    ensures { result ≡ step_of splitter number taken written }
-{
-    Step {
-        session: Session { splitter, number },
-        taken,
-        written,
-    }
+    len.saturating_mul(128)
 }
 
 // The line of a frame: it is opened, and nothing of it is copied.
@@ -167,24 +115,12 @@ fn put_frame(number: u64, wire: &[u8], out: &mut [u8]) -> usize
     requires { 128 ≤ length out.old }
     ensures { Wrote (line_to number (yes (frame wire.now))) out.old result out.new }
 {
-    let len = wire.len();
-    let opened = RawFrame::open(wire);
-    count(report::frame_line(number, len, opened, out))
+    report::frame_line(number, wire.len(), RawFrame::open(wire), out).unwrap()
 }
 
 fn put_long(number: u64, out: &mut [u8]) -> usize
     requires { 128 ≤ length out.old }
     ensures { Wrote (long_text number) out.old result out.new }
 {
-    count(report::long_line(number, out))
-}
-
-// The bytes of a line that was put.
-fn count(line: ResultUsize) -> usize
-    ensures { result ≡ count_of (told_usize line) }
-{
-    match line {
-        ResultUsize::Ok(n) => n,
-        ResultUsize::Err(_) => 0,
-    }
+    report::long_line(number, out).unwrap()
 }

@@ -32,10 +32,8 @@ impl ShotText {
         ensures result_value { result.now ≡ text_of payload.now }
         ensures ref_ptr_value { result.ref_ptr ≡ text_at payload.entry }
     {
-        let place = ShotText::place(payload);
-        let start = place.start;
-        let end = start + place.len;
-        &payload[start..end]
+        let TextPlace { start, len } = ShotText::place(payload);
+        &payload[start..start + len]
     }
 
     // Whether the word PROCESSED stands in it.
@@ -60,32 +58,29 @@ impl ShotText {
     }
 }
 
-// One past the last byte that is no control byte, or 0.
+// One past the last byte that is no control byte, or 0. This and the next three are written out: `rposition`, `position`, `starts_with`
+// and `any` took 5 to 65 % longer.
 fn end_of(payload: &[u8]) -> usize
     ensures { (result ≤ length payload.now) × (take result payload.now ≡ cut_back payload.now) }
 {
-    let mut end = payload.len();
-    while 0 < end {
-        if 0x20 <= payload[end - 1] {
-            return end;
+    for i in (0..payload.len()).rev() {
+        if 0x20 <= payload[i] {
+            return i + 1;
         }
-        end -= 1;
     }
-    end
+    0
 }
 
 // The first byte that is no control byte, or the length.
 fn start_of(text: &[u8]) -> usize
     ensures { (result ≤ length text.now) × (drop result text.now ≡ cut_front text.now) }
 {
-    let mut start = 0;
-    while start < text.len() {
-        if 0x20 <= text[start] {
+    for (start, &b) in text.iter().enumerate() {
+        if 0x20 <= b {
             return start;
         }
-        start += 1;
     }
-    start
+    text.len()
 }
 
 // Whether the word stands in the text from place k on.
@@ -93,12 +88,10 @@ fn stands_at(text: &[u8], k: usize, word: &[u8]) -> bool
     requires { k + length word.now ≤ length text.now }
     ensures { Says (StandsAt word.now text.now k) result }
 {
-    let mut i = 0;
-    while i < word.len() {
-        if text[k + i] != word[i] {
+    for (i, &b) in word.iter().enumerate() {
+        if text[k + i] != b {
             return false;
         }
-        i += 1;
     }
     true
 }
@@ -107,12 +100,13 @@ fn stands_at(text: &[u8], k: usize, word: &[u8]) -> bool
 fn contains(text: &[u8], word: &[u8]) -> bool
     ensures { Says (Stands word.now text.now) result }
 {
-    let mut k = 0;
-    while k + word.len() <= text.len() {
+    if text.len() < word.len() {
+        return false;
+    }
+    for k in 0..=text.len() - word.len() {
         if stands_at(text, k, word) {
             return true;
         }
-        k += 1;
     }
     false
 }

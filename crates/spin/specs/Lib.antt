@@ -1,2 +1,3 @@
 -- The tables of EF.
 pub mod Tables
+pub mod Zeros

@@ -5,12 +5,13 @@ use mathlib.Core.Bool.{Bool, true, false, cond, not, ◌&&◌, ◌||◌}
 use mathlib.Core.List.{List, ◌++◌}
 use Prim.Native.Nat.{ℕ, ◌+◌, ◌-◌, ◌^◌, ◌≤◌, ◌<◌, zero-le}
 use native.Mathlib.Omega.{arith}
-use native.Mathlib.Nat.{zero-add, add-zero}
+use native.Mathlib.Nat.{zero-add}
 use lib.Dec.{eqb, leb, ltb}
-use lib.ListN.{length, take, drop, get_or, set, replicate, length-drop}
-use lib.Seq.{take-length, take_at, sets, sets-eq, paste, paste-zero, paste-suc}
-use borrow.Author.Tests.{eq-eqb, ne_eqb, lt-ltb, le-ltb, le-leb, ltb-false, leb-true, leb-false, eqb-true, not-true, not-false}
-use Rattle.general.proofs.Cases.{by-test, by-lt}
+use lib.ListN.{length, take, drop, replicate, length-drop}
+use lib.Seq.{take_at, sets, sets-eq}
+use borrow.Author.Tests.{eq-eqb, ne_eqb, lt-ltb, le-ltb, le-leb, ltb-false, leb-true, eqb-true, not-true, not-false}
+use Rattle.std.specs.declared.result.Result.TheVariants.{Ok}
+use Rattle.general.proofs.Cases.{by-test}
 use Rattle.search.specs.First.{index_of, first_from}
 use Rattle.search.proofs.First.{index-le}
 use Rattle.splitter.specs.declared.Counts.{Counts}
@@ -19,18 +20,6 @@ use Rattle.splitter.specs.declared.Fed.{Fed}
 use Rattle.splitter.specs.declared.Event.TheVariants.{More, Frame, Overlong}
 use Rattle.splitter.specs.Feed.{Given, given_by, is_bad, is_full, is_open, is_kept, balances, start_in, part, laid, length_with}
 use Rattle.splitter.specs.Feed.{counted, handed, given_up, holding, marked, ends, going_on, runs, refused_as, feed_rule}
-use Rattle.splitter.specs.Private.{Room}
-
--- a whole list that is pasted
-pub paste_all : (d : List ℕ) (at : ℕ) (s : List ℕ) (i : ℕ) → i ≡ length s → paste d at s i ≡ laid d at s
-paste_all d at s i e = rw (e, take-length)
-
--- one byte that is stored
-pub one-laid : (d : List ℕ) (at : ℕ) (s : List ℕ) → length s ≡ 1 → at + 1 ≤ length d → set d at (get_or s 0 0) ≡ laid d at s
-one-laid d at s e l =
-    (λ i. set (paste-zero d at s i) (sym (add-zero at) i) (get_or s 0 0))
-    ∙ paste-suc d at s 0 0 (omega arith) (omega arith)
-    ∙ paste_all d at s 1 (sym e)
 
 -- sixteen that are stored as a block
 pub block-laid : (d x : List ℕ) (at : ℕ) (s a : List ℕ) → length s ≡ 16 → at + length s ≤ length d → a ≡ take 16 (s ++ replicate 16 0)
@@ -39,35 +28,6 @@ block-laid d x at s a e l is p =
     let all : a ≡ s = is ∙ take_at s (replicate 16 0) 16 e in
     let fits : at + 16 ≤ length d = omega arith in
     p ∙ rw (le-leb (at + 16) (length d) fits, all) (sets-eq s d at l)
-
--- a frame without the mark is lost where the room that is left is less than what is added
-pub lost-is : (s : FrameSplitter) (H n : ℕ) → s.skipping ≡ false → s.count ≤ H → ltb (H - s.count) n ≡ not (is_kept s H n)
-lost-is s H n m l =
-    by-test (leb (length_with s n) H)
-    (λ e.
-    let k : s.count + n ≤ H = leb-true (length_with s n) H e in
-    rw (m, e, le-ltb (H - s.count) n (omega arith)))
-    (λ e.
-    let k : H < s.count + n = leb-false (length_with s n) H e in
-    rw (m, e, lt-ltb (H - s.count) n (omega arith)))
-
--- more bytes than can still be counted
-pub full_is : (s : FrameSplitter) (n : ℕ) → s.counts.taken < 2 ^ 64 → ltb (2 ^ 64 - 1 - s.counts.taken) n ≡ is_full s n
-full_is s n l =
-    by-lt (2 ^ 64 - 1) (s.counts.taken + n)
-    (λ k. lt-ltb (2 ^ 64 - 1 - s.counts.taken) n (omega arith) ∙ sym (lt-ltb _ _ k))
-    (λ k. le-ltb (2 ^ 64 - 1 - s.counts.taken) n (omega arith) ∙ sym (le-ltb _ _ k))
-
--- counts with another sum do not balance; with that sum they do where held is the count
-module _ (k : Counts) (n : ℕ) where
-  abbrev others : ℕ
-  others = k.dropped + k.framed + k.lost + k.held
-
-  pub unbalanced : (k.taken ≡ others → ⊥) → false ≡ balances k n
-  unbalanced d = rw (ne_eqb k.taken others d)
-
-  pub if-held : k.taken ≡ others → eqb k.held n ≡ balances k n
-  if-held e = rw (eq-eqb k.taken others e)
 
 -- both of two tests
 and-true : (a b : Bool) → a && b ≡ true → (a ≡ true) × (b ≡ true)
@@ -90,9 +50,9 @@ kept-is s H n e =
     let k = and-true (not s.skipping) (leb (length_with s n) H) e in
     (not-true s.skipping k.0, leb-true (length_with s n) H k.1)
 
--- ---- a reply r, with the counts k and the hold buffer h' after it, where a frame ends or goes on
+-- ---- a reply r, with the state s', its counts k and the hold buffer h' after it, where a frame ends or goes on
 
-module _ (s : FrameSplitter) (h c : List ℕ) (i e : ℕ) (r : Fed) (k : Counts) where
+module _ (s : FrameSplitter) (h c : List ℕ) (i e : ℕ) (r : Fed) (s' : FrameSplitter) (k : Counts) where
   -- count and mark after a frame's end
   abbrev over : FrameSplitter
   over = record { count = 0; skipping = false; counts = k }
@@ -102,32 +62,34 @@ module _ (s : FrameSplitter) (h c : List ℕ) (i e : ℕ) (r : Fed) (k : Counts)
   all = length_with s (e - i)
 
   module _ (t : is_kept s (length h) (e - i) ≡ false) (q : k ≡ counted s i e 0 all 0) where
-    pub ends-lost : r ≡ record { event = Overlong; taken = e; splitter = over } → given_by r h ≡ ends s h c i e
+    pub ends-lost : r ≡ record { event = Overlong; taken = e } → s' ≡ over → given_by (Ok r) s' h ≡ ends s h c i e
     unfolding ends
-    ends-lost p = rw (p, q, t)
+    ends-lost p o = rw (p, o, q, t)
 
-    pub goes-lost : r ≡ record { event = More; taken = e; splitter = record { count = 0; skipping = true; counts = k } } → given_by r h ≡ going_on s h c i e
+    pub goes-lost : r ≡ record { event = More; taken = e } → s' ≡ record { count = 0; skipping = true; counts = k }
+        → given_by (Ok r) s' h ≡ going_on s h c i e
     unfolding going_on
-    goes-lost p = rw (p, q, t)
+    goes-lost p o = rw (p, o, q, t)
 
   module _ (t : is_kept s (length h) (e - i) ≡ true) where
     pub ends-shown : k ≡ counted s i e all 0 0
-        → r ≡ record { event = Frame (record { in_hold = false; start = i; len = e - i }); taken = e; splitter = over } → s.count ≡ 0
-        → given_by r h ≡ ends s h c i e
+        → r ≡ record { event = Frame (record { in_hold = false; start = i; len = e - i }); taken = e } → s' ≡ over → s.count ≡ 0
+        → given_by (Ok r) s' h ≡ ends s h c i e
     unfolding ends
-    ends-shown q p z = rw (p, q, t, (kept-is s (length h) (e - i) t).0, eq-eqb s.count 0 z)
+    ends-shown q p o z = rw (p, o, q, t, (kept-is s (length h) (e - i) t).0, eq-eqb s.count 0 z)
 
     module _ (h' : List ℕ) (d : h' ≡ laid h s.count (part c i e)) where
       pub ends_held : k ≡ counted s i e all 0 0
-          → r ≡ record { event = Frame (record { in_hold = true; start = 0; len = all }); taken = e; splitter = over }
-          → (s.count ≡ 0 → ⊥) → given_by r h' ≡ ends s h c i e
+          → r ≡ record { event = Frame (record { in_hold = true; start = 0; len = all }); taken = e } → s' ≡ over
+          → (s.count ≡ 0 → ⊥) → given_by (Ok r) s' h' ≡ ends s h c i e
       unfolding ends
-      ends_held q p n = rw (p, q, d, t, (kept-is s (length h) (e - i) t).0, ne_eqb s.count 0 n)
+      ends_held q p o n = rw (p, o, q, d, t, (kept-is s (length h) (e - i) t).0, ne_eqb s.count 0 n)
 
       pub goes-held : k ≡ counted s i e 0 0 all
-          → r ≡ record { event = More; taken = e; splitter = record { count = all; skipping = false; counts = k } } → given_by r h' ≡ going_on s h c i e
+          → r ≡ record { event = More; taken = e } → s' ≡ record { count = all; skipping = false; counts = k }
+          → given_by (Ok r) s' h' ≡ going_on s h c i e
       unfolding going_on
-      goes-held q p = rw (p, q, d, t)
+      goes-held q p o = rw (p, o, q, d, t)
 
 -- ---- feed
 
@@ -158,12 +120,6 @@ pub is-good : (s : FrameSplitter) (H : ℕ) → Good s H → is_bad s H ≡ fals
 is-good s H g =
     rw (le-ltb _ _ g.fits, eq-eqb _ _ g.sum, eq-eqb _ _ g.held)
     (by-test s.skipping (λ m. rw (m, eq-eqb _ _ (g.empty m))) (λ m. rw m))
-
--- its counts have room for the chunk that is not refused
-pub room-for : (s : FrameSplitter) (H n : ℕ) → is_bad s H ≡ false → is_full s n ≡ false → (e : ℕ) → e ≤ n → Room s e
-room-for s H n good free e l =
-    let g = good-is s H good in
-    record { sum = rw g.held at g.sum; below = omega (arith, can-count s n free) }
 
 module _ (s : FrameSplitter) (h c : List ℕ) where
   pub feed-bad : is_bad s (length h) ≡ true → feed_rule s h c ≡ refused_as 9 s h

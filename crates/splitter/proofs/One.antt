@@ -1,16 +1,18 @@
 -- Two replies that a contract of the splitter allows for one input are equal, and so is every byte of the hold buffer at exit,
 -- by the contract as the check reads it off src/ (`Post`). An event, and so a whole reply, is decided by what it tells.
 use mathlib.Core.Path.{◌≡◌, refl, ap, ◌∙◌, sym}
-use mathlib.Core.List.{List}
 use Prim.Native.Nat.{ℕ}
 use Rattle.general.proofs.One.{plain}
+use Rattle.std.specs.Prelude.{Result}
+use Rattle.std.specs.declared.result.Result.TheVariants.{Ok, Err}
+use Rattle.error.specs.declared.WireError.{WireError}
 use Rattle.error.specs.Refusal.{Told, yes, no}
 use Rattle.error.proofs.Decides.{refusal, there}
 use Rattle.splitter.specs.declared.Place.{Place}
 use Rattle.splitter.specs.declared.Fed.{Fed}
 use Rattle.splitter.specs.declared.Event.{Event}
-use Rattle.splitter.specs.declared.Event.TheVariants.{More, Frame, Overlong, Err}
-use Rattle.splitter.specs.Feed.{Given, Answer, more, overlong, frame, told_event, given_by}
+use Rattle.splitter.specs.declared.Event.TheVariants.{More, Frame, Overlong}
+use Rattle.splitter.specs.Feed.{Given, Answer, more, overlong, frame, answer_of, told_event, taken_of}
 use Rattle.splitter.proofs.FrameSplitter.new.Reads as new
 use Rattle.splitter.proofs.FrameSplitter.feed.Reads as feed
 use Rattle.splitter.proofs.FrameSplitter.is_bad.Reads as is-bad
@@ -27,26 +29,31 @@ one-is-bad κs a r s x y = plain
 
 -- ---- a reply, back from what it gives
 
-unfoldable pub event_of : Told (Answer Place) → Event
-event_of (yes more) = More
-event_of (yes overlong) = Overlong
-event_of (yes (frame p)) = Frame p
-event_of (no n vs) = Err (refusal n vs)
+unfoldable pub event_of : Answer Place → Event
+event_of more = More
+event_of overlong = Overlong
+event_of (frame p) = Frame p
 
-event-back : (e : Event) → event_of (told_event e) ≡ e
+event-back : (e : Event) → event_of (answer_of e) ≡ e
 unfolding event_of
 event-back More = refl
 event-back (Frame p) = refl
 event-back Overlong = refl
-event-back (Err e) = ap Err (there e)
 
-abbrev pub fed_of : Given → Fed
-fed_of g = record { event = event_of g.answer; taken = g.taken; splitter = g.state }
+unfoldable pub reply_of : Told (Answer Place) → ℕ → Result Fed WireError
+reply_of (yes a) n = Ok (record { event = event_of a; taken = n })
+reply_of (no k vs) n = Err (refusal k vs)
 
-fed-back : (f : Fed) (h : List ℕ) → fed_of (given_by f h) ≡ f
-fed-back f h = ap (λ (e : Event). record { event = e; taken = f.taken; splitter = f.splitter }) (event-back f.event)
+reply-back : (r : Result Fed WireError) → reply_of (told_event r) (taken_of r) ≡ r
+unfolding reply_of
+reply-back (Ok f) = ap (λ (e : Event). Ok (record { event = e; taken = f.taken })) (event-back f.event)
+reply-back (Err e) = ap Err (there e)
 
-pub one-feed : (κs a r s x y : _) → feed.Post κs a r x → feed.Post κs a s y → (r ≡ s) × (x.1.0.now ≡ y.1.0.now)
+-- the reply, the splitter after it and the hold buffer after it
+pub one-feed : (κs a r s x y : _) → feed.Post κs a r x → feed.Post κs a s y → (r ≡ s) × (x.0.now ≡ y.0.now) × (x.1.0.now ≡ y.1.0.now)
 one-feed κs a r s x y p q =
-    let same = plain p q in
-    (sym (fed-back r x.1.0.now) ∙ ap fed_of same ∙ fed-back s y.1.0.now, ap (λ (g : Given). g.hold) same)
+    let same = plain p q in (
+      sym (reply-back r) ∙ ap (λ (g : Given). reply_of g.answer g.taken) same ∙ reply-back s,
+      ap (λ (g : Given). g.state) same,
+      ap (λ (g : Given). g.hold) same,
+    )

@@ -1,6 +1,9 @@
 -- Document 01, 'Splitter', and request 6: what one call of `feed` does. s is the state before it, h the hold buffer, c the chunk.
 -- `feed_rule` fixes the answer, the bytes taken, the state after the call and every byte of the hold buffer.
 use Rattle.std.specs.Prelude.{ℕ, ◌+◌, ◌-◌, ◌^◌, Bool, true, false, cond, not, ◌&&◌, ◌||◌, List, [], ◌++◌, length, take, drop, ltb, leb, eqb}
+use Rattle.std.specs.Prelude.{Result}
+use Rattle.std.specs.declared.result.Result.TheVariants.{Ok, Err}
+use Rattle.error.specs.declared.WireError.{WireError}
 use Rattle.error.specs.Refusal.{Told, yes, no, refused}
 use Rattle.search.specs.First.{first_from}
 use Rattle.splitter.specs.declared.Counts.{Counts}
@@ -8,7 +11,7 @@ use Rattle.splitter.specs.declared.FrameSplitter.{FrameSplitter}
 use Rattle.splitter.specs.declared.Place.{Place}
 use Rattle.splitter.specs.declared.Fed.{Fed}
 use Rattle.splitter.specs.declared.Event.{Event}
-use Rattle.splitter.specs.declared.Event.TheVariants.{More, Frame, Overlong, Err}
+use Rattle.splitter.specs.declared.Event.TheVariants.{More, Frame, Overlong}
 
 -- ---- answers
 
@@ -22,11 +25,19 @@ on_frame f more = more
 on_frame f overlong = overlong
 on_frame f (frame p) = frame (f p)
 
-abbrev pub told_event : Event → Told (Answer Place)
-told_event More = yes more
-told_event (Frame p) = yes (frame p)
-told_event Overlong = yes overlong
+abbrev pub answer_of : Event → Answer Place
+answer_of More = more
+answer_of (Frame p) = frame p
+answer_of Overlong = overlong
+
+-- what a reply tells, and how many bytes it says were taken: a refusal takes none
+abbrev pub told_event : Result Fed WireError → Told (Answer Place)
+told_event (Ok f) = yes (answer_of f.event)
 told_event (Err e) = refused e
+
+abbrev pub taken_of : Result Fed WireError → ℕ
+taken_of (Ok f) = f.taken
+taken_of (Err e) = 0
 
 -- all that a call fixes: the answer, the bytes taken, the state after it, and the hold buffer after it
 pub record Given : Type 0 where
@@ -38,8 +49,8 @@ pub record Given : Type 0 where
 abbrev pub given : Told (Answer Place) → ℕ → FrameSplitter → List ℕ → Given
 given a n s h = record { answer = a; taken = n; state = s; hold = h }
 
-abbrev pub given_by : Fed → List ℕ → Given
-given_by f h = given (told_event f.event) f.taken f.splitter h
+abbrev pub given_by : Result Fed WireError → FrameSplitter → List ℕ → Given
+given_by r s h = given (told_event r) (taken_of r) s h
 
 -- ---- states
 

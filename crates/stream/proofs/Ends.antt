@@ -10,7 +10,8 @@ use lib.Dec.{ltb}
 use lib.ListN.{length, take, drop, length-append, length-drop, length-replicate, replicate, take-append-drop}
 use lib.Seq.{take_at, take-append-le, drop-append-le, length-take-le}
 use borrow.Author.Tests.{le-leb}
-use Rattle.error.specs.Refusal.{Told, yes, no}
+use Rattle.std.specs.Prelude.{Result}
+use Rattle.error.specs.Refusal.{yes, no, refused}
 use Rattle.error.specs.declared.WireError.{WireError}
 use Rattle.error.specs.declared.WireError.TheVariants.{BadState, CounterFull}
 use Rattle.general.proofs.Cases.{by-test}
@@ -18,15 +19,14 @@ use Rattle.error.proofs.Decides.{there}
 use Rattle.splitter.specs.declared.FrameSplitter.{FrameSplitter}
 use Rattle.splitter.specs.declared.Fed.{Fed}
 use Rattle.splitter.specs.declared.Place.{Place}
-use Rattle.splitter.specs.declared.Event.TheVariants.{Err}
 use Rattle.search.specs.First.{index_of, first_from}
-use Rattle.splitter.specs.Feed.{Given, Answer, given, more, told_event, is_bad, is_full, is_open, is_kept, start_in, laid, given_by}
+use Rattle.splitter.specs.Feed.{Given, Answer, given, more, told_event, taken_of, is_bad, is_full, is_open, is_kept, start_in, laid, given_by}
 use Rattle.splitter.specs.Feed.{counted, holding, marked, ends, going_on, runs, feed_rule}
 use Rattle.stream.specs.Stream.{Call, Calls, Feeds, Through, joined}
 use Rattle.stream.specs.Stream as stream
 use Rattle.splitter.proofs.Laws.{Good, good-is, feed-bad, feed-full, feed-goes-on, CanCount, can-take, counts-on}
 use Rattle.stream.proofs.Calls.{Stands, fits, long, stands_good, Agrees, one-call}
-use Rattle.splitter.proofs.One.{event_of, fed_of}
+use Rattle.splitter.proofs.One.{event_of, reply_of}
 
 -- ---- a state that is not refused stands for some open bytes
 
@@ -63,18 +63,19 @@ module _ (s : FrameSplitter) (h c : List ℕ) where
   feed-moves b f = (good-call s h b c f).moves
 
 -- the same of any reply that the contract of `feed` allows: at most the chunk, and at least a byte of one that is not empty, unless it is refused
-pub fed-within : (f : Fed) (h' : List ℕ) (s : FrameSplitter) (h c : List ℕ) → given_by f h' ≡ feed_rule s h c → f.taken ≤ length c
-fed-within f h' s h c e =
-    let t : f.taken ≡ (feed_rule s h c).taken = ap (λ (g : Given). g.taken) e in
+pub fed-within : (r : Result Fed WireError) (s' : FrameSplitter) (h' : List ℕ) (s : FrameSplitter) (h c : List ℕ) → given_by r s' h' ≡ feed_rule s h c
+    → taken_of r ≤ length c
+fed-within r s' h' s h c e =
+    let t : taken_of r ≡ (feed_rule s h c).taken = ap (λ (g : Given). g.taken) e in
     rw t (feed-within s h c)
 
 never : {A : Type 0} (n : ℕ) (vs : List ℕ) (a : A) → no n vs ≡ yes a → ⊥
 never n vs a e = let z : ◌≡◌ {A = ℕ} 0 1 = cc in omega arith
 
-pub fed-moves : (f : Fed) (a : Answer Place) (h' : List ℕ) (s : FrameSplitter) (h c : List ℕ) → given_by f h' ≡ feed_rule s h c → told_event f.event ≡ yes a
-    → 0 < length c → 0 < f.taken
-fed-moves f a h' s h c e y p =
-    let t : f.taken ≡ (feed_rule s h c).taken = ap (λ (g : Given). g.taken) e in
+pub fed-moves : (r : Result Fed WireError) (a : Answer Place) (s' : FrameSplitter) (h' : List ℕ) (s : FrameSplitter) (h c : List ℕ)
+    → given_by r s' h' ≡ feed_rule s h c → told_event r ≡ yes a → 0 < length c → 0 < taken_of r
+fed-moves r a s' h' s h c e y p =
+    let t : taken_of r ≡ (feed_rule s h c).taken = ap (λ (g : Given). g.taken) e in
     let z : (feed_rule s h c).answer ≡ yes a = sym (ap (λ (g : Given). g.answer) e) ∙ y in
     rw t
     (by-test (is_bad s (length h))
@@ -130,38 +131,46 @@ feed-empty s h good small =
 
 -- ---- there is a reply to every offer
 
-replied : (s : FrameSplitter) (h c : List ℕ) → told_event (event_of (feed_rule s h c).answer) ≡ (feed_rule s h c).answer
-unfolding feed_rule runs ends going_on event_of
+-- a reply tells what it was made of: an answer, or one of the two refusals, which takes nothing
+pub replied : (s : FrameSplitter) (h c : List ℕ) → let g = feed_rule s h c in
+    (told_event (reply_of g.answer g.taken) ≡ g.answer) × (taken_of (reply_of g.answer g.taken) ≡ g.taken)
+unfolding feed_rule runs ends going_on event_of reply_of
 replied s h c =
     let i = start_in s c in
     let j = first_from 0xF1 i c in
     by-test (is_bad s (length h))
-    (λ b. rw b (ap (λ (e : WireError). told_event (Err e)) (there BadState)))
+    (λ b. rw b (ap refused (there BadState), refl))
     (λ b.
     by-test (is_full s (length c))
-    (λ f. rw (b, f) (ap (λ (e : WireError). told_event (Err e)) (there CounterFull)))
+    (λ f. rw (b, f) (ap refused (there CounterFull), refl))
     (λ f.
     by-test (ltb j (length c))
-    (λ l. by-test (is_kept s (length h) (j + 1 - i)) (λ k. by-test (is_open s) (λ o. rw (b, f, l, k, o)) (λ o. rw (b, f, l, k, o))) (λ k. rw (b, f, l, k)))
-    (λ l. by-test (is_kept s (length h) (length c - i)) (λ k. rw (b, f, l, k)) (λ k. rw (b, f, l, k)))))
+    (λ l.
+    by-test (is_kept s (length h) (j + 1 - i))
+    (λ k. by-test (is_open s) (λ o. rw (b, f, l, k, o) (refl, refl)) (λ o. rw (b, f, l, k, o) (refl, refl)))
+    (λ k. rw (b, f, l, k) (refl, refl)))
+    (λ l. by-test (is_kept s (length h) (length c - i)) (λ k. rw (b, f, l, k) (refl, refl)) (λ k. rw (b, f, l, k) (refl, refl)))))
 
-pub allowed : (s : FrameSplitter) (h c : List ℕ) → given_by (fed_of (feed_rule s h c)) (feed_rule s h c).hold ≡ feed_rule s h c
+pub allowed : (s : FrameSplitter) (h c : List ℕ) → let g = feed_rule s h c in
+    given_by (reply_of g.answer g.taken) g.state g.hold ≡ g
 allowed s h c =
     let g = feed_rule s h c in
-    ap (λ (a : Told (Answer Place)). given a g.taken g.state g.hold) (replied s h c)
+    let e = replied s h c in
+    λ i. given (e.0 i) (e.1 i) g.state g.hold
 
 -- ---- chunks
 
 pub feeds-calls : {s s' : FrameSplitter} {h h' : List ℕ} {cs : List (List ℕ)} {t : List Call} → Feeds s h cs t s' h' → Calls s h (joined cs) t s' h'
 feeds-calls stream.Feeds.done = stream.Calls.done
 feeds-calls (stream.Feeds.used f) = feeds-calls f
-feeds-calls {s} {s'} {h} {h'} (stream.Feeds.feed {c = c} {cs = cs} {t = t} r h₁ e f) =
-    let l : r.taken ≤ length c = fed-within r h₁ s h c e in
+feeds-calls {s} {s'} {h} {h'} (stream.Feeds.feed {c = c} {cs = cs} {t = t} r s₁ h₁ e f) =
+    let n₁ = taken_of r in
+    let l : n₁ ≤ length c = fed-within r s₁ h₁ s h c e in
     let n : take (length c) (c ++ joined cs) ≡ c = take_at c (joined cs) (length c) refl in
-    let d : drop r.taken (c ++ joined cs) ≡ drop r.taken c ++ joined cs = drop-append-le r.taken c (joined cs) l in
-    let k : take r.taken (c ++ joined cs) ≡ take r.taken c = take-append-le r.taken c (joined cs) l in
-    let x : Calls r.splitter h₁ (drop r.taken (c ++ joined cs)) t s' h' = rw d (feeds-calls f) in
-    let y = stream.Calls.next {s = s} {h = h} {b = c ++ joined cs} (length c) r h₁ (rw n e) x in
+    let d : drop n₁ (c ++ joined cs) ≡ drop n₁ c ++ joined cs = drop-append-le n₁ c (joined cs) l in
+    let k : take n₁ (c ++ joined cs) ≡ take n₁ c = take-append-le n₁ c (joined cs) l in
+    let x : Calls s₁ h₁ (drop n₁ (c ++ joined cs)) t s' h' = rw d (feeds-calls f) in
+    let y = stream.Calls.next {s = s} {h = h} {b = c ++ joined cs} (length c) r s₁ h₁ (rw n e) x in
     rw (k, n) at y
 
 unfoldable pub past : {s : FrameSplitter} {h : List ℕ} {cs : List (List ℕ)} → Through s h cs → Through s h ([] ∷ cs)
@@ -183,7 +192,9 @@ one_chunk (suc n) s h (x ∷ c) cs good below l go =
     let d : length (drop g.taken (x ∷ c)) ≤ n = rw (length-drop g.taken (x ∷ c)) (omega arith) in
     let b = counts-on s h (x ∷ c) good (feed-within s h (x ∷ c)) (length (joined cs)) below in
     let r = one_chunk n g.state g.hold (drop g.taken (x ∷ c)) cs (stands_good (good-call s h good (x ∷ c) free).stands) b d go in
-    record { trace = _; state = r.state; held = r.held; feeds = stream.Feeds.feed (fed_of g) g.hold (allowed s h (x ∷ c)) r.feeds }
+    let reply = reply_of g.answer g.taken in
+    let rest : Feeds g.state g.hold (drop (taken_of reply) (x ∷ c) ∷ cs) r.trace r.state r.held = rw (replied s h (x ∷ c)).1 r.feeds in
+    record { trace = _; state = r.state; held = r.held; feeds = stream.Feeds.feed reply g.state g.hold (allowed s h (x ∷ c)) rest }
 
 -- however a line shorter than 2^64 is cut into chunks, offering each untaken rest again comes to an end
 unfoldable pub all_end : (cs : List (List ℕ)) → Onward (length (joined cs)) cs

@@ -11,7 +11,7 @@ use lib.Seq.{take-take, length-take-le}
 use borrow.Author.Tests.{le-leb, lt-leb}
 use Rattle.general.proofs.Cases.{by-test}
 use Rattle.splitter.specs.declared.FrameSplitter.{FrameSplitter}
-use Rattle.splitter.specs.Feed.{Given, new, is_full, refused_as, told_event, given_by, more, overlong, frame}
+use Rattle.splitter.specs.Feed.{Given, new, is_full, refused_as, told_event, taken_of, given_by, more, overlong, frame}
 use Rattle.splitter.proofs.Laws.{CanCount, can-take, can-count, feed-full}
 use Rattle.error.specs.Refusal.{yes, no}
 use Rattle.stream.specs.Stream.{Said, said_of, Call, Calls, done, next, taken_by, unless_more, answers}
@@ -47,24 +47,24 @@ rest_below s s' b n l e k = omega (arith, length-drop n b)
 -- A call that would pass 2^64 takes nothing, so no calls use up a line that is longer.
 pub taken-below : {s s' : FrameSplitter} {h h' b : List ℕ} {t : List Call} (w : List ℕ) → Stands s h w → CanCount s 0 → Calls s h b t s' h' → CanCount s (length b)
 taken-below w k l done = l
-taken-below {s} {h = h} {b = b} w k l (next n r h₁ e rest) =
+taken-below {s} {h = h} {b = b} w k l (next n r s₁ h₁ e rest) =
     let c : List ℕ = take n b in
     by-test (is_full s (length c))
     (λ f.
-    let z : given_by r h₁ ≡ refused_as 13 s h = e ∙ feed-full s h c (stands_good k) f in
-    let state : r.splitter ≡ s = ap (λ (g : Given). g.state) z in
+    let z : given_by r s₁ h₁ ≡ refused_as 13 s h = e ∙ feed-full s h c (stands_good k) f in
+    let state : s₁ ≡ s = ap (λ (g : Given). g.state) z in
     let hold : h₁ ≡ h = ap (λ (g : Given). g.hold) z in
-    let none : r.taken ≡ 0 = ap (λ (g : Given). g.taken) z in
-    let u : CanCount r.splitter (length (drop r.taken b)) = taken-below w (rw (state, hold) k) (rw state l) rest in
+    let none : taken_of r ≡ 0 = ap (λ (g : Given). g.taken) z in
+    let u : CanCount s₁ (length (drop (taken_of r) b)) = taken-below w (rw (state, hold) k) (rw state l) rest in
     rw (none, state) at u)
     (λ f.
-    let a : Agrees s h c w (given_by r h₁) = rw e (one-call w c k f) in
+    let a : Agrees s h c w (given_by r s₁ h₁) = rw e (one-call w c k f) in
     let most : CanCount s (length c) = can-count s (length c) f in
-    let size : length (take r.taken c) ≡ r.taken = length-take-le r.taken c a.within in
-    let taken : r.splitter.counts.taken ≡ s.counts.taken + r.taken = omega (arith, a.counts.taken) in
-    let within : r.taken ≤ length c = a.within in
-    let u : CanCount r.splitter (length (drop r.taken b)) = taken-below _ a.stands (omega arith) rest in
-    omega (arith, length-drop r.taken b, length-take n b))
+    let size : length (take (taken_of r) c) ≡ taken_of r = length-take-le (taken_of r) c a.within in
+    let taken : s₁.counts.taken ≡ s.counts.taken + taken_of r = omega (arith, a.counts.taken) in
+    let within : taken_of r ≤ length c = a.within in
+    let u : CanCount s₁ (length (drop (taken_of r) b)) = taken-below _ a.stands (omega arith) rest in
+    omega (arith, length-drop (taken_of r) b, length-take n b))
 
 -- ---- the calls follow the line
 
@@ -86,19 +86,19 @@ no-moves k = record { taken = omega arith; dropped = omega arith; framed = omega
 
 pub follows : {s s' : FrameSplitter} {h h' b : List ℕ} {t : List Call} (w : List ℕ) → Stands s h w → CanCount s (length b) → Calls s h b t s' h' → Follows s h w b t s' h'
 follows w k l done = record { hears = refl; takes = refl; plain = tt; stands = k; size = refl; counts = no-moves k }
-follows {s} {h = h} {b = b} w k l (next {t = t} n r h₁ e rest) =
+follows {s} {h = h} {b = b} w k l (next {t = t} n r s₁ h₁ e rest) =
     let c : List ℕ = take n b in
-    let a : Agrees s h c w (given_by r h₁) = rw e (one-call w c k (free s b n l)) in
-    let said : Said = said_of c h₁ (told_event r.event) in
-    let m : List ℕ = take r.taken b in
-    let d : List ℕ = drop r.taken b in
-    let le : r.taken ≤ n = omega (arith, a.within, length-take n b) in
-    let same : take r.taken c ≡ m = take-take r.taken n b le in
-    let long : r.taken ≤ length b = omega (arith, a.within, length-take n b) in
-    let size : length m ≡ r.taken = length-take-le r.taken b long in
-    let all : m ++ d ≡ b = take-append-drop r.taken b in
-    let counts : Tallied (length h) s.counts w m r.splitter.counts = rw same at a.counts in
-    let l' : CanCount r.splitter (length d) = rest_below s r.splitter b r.taken long (rw size at counts.taken) l in
+    let a : Agrees s h c w (given_by r s₁ h₁) = rw e (one-call w c k (free s b n l)) in
+    let said : Said = said_of c h₁ (told_event r) in
+    let m : List ℕ = take (taken_of r) b in
+    let d : List ℕ = drop (taken_of r) b in
+    let le : taken_of r ≤ n = omega (arith, a.within, length-take n b) in
+    let same : take (taken_of r) c ≡ m = take-take (taken_of r) n b le in
+    let long : taken_of r ≤ length b = omega (arith, a.within, length-take n b) in
+    let size : length m ≡ taken_of r = length-take-le (taken_of r) b long in
+    let all : m ++ d ≡ b = take-append-drop (taken_of r) b in
+    let counts : Tallied (length h) s.counts w m s₁.counts = rw same at a.counts in
+    let l' : CanCount s₁ (length d) = rest_below s s₁ b (taken_of r) long (rw size at counts.taken) l in
     let f = follows (opened w m) (rw same at a.stands) l' rest in
     record {
       hears = rw (size, a.heard, same, f.hears, a.size) (sym (hear-append (length h) w m d) ∙ ap (hear (length h) w) all);

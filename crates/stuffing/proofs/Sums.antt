@@ -1,6 +1,6 @@
 -- The sum of joined strings is the sum of their sums, wrapped at 65,536, in either order.
--- `running` and `counted` are the step of a loop that adds and wraps.
-use Rattle.std.proofs.Common.{◌≡◌, ℕ, ◌+◌, ◌%◌, ◌<◌, cond, eqb, List, [], ◌∷◌, ◌++◌, length, get_or, drop, sym, ap, ◌∙◌, add-one, arith, drop-cons, eq-eqb, ne_eqb}
+-- `running` is the step of a loop that adds and wraps.
+use Rattle.std.proofs.Common.{◌≡◌, ℕ, ◌+◌, ◌%◌, ◌<◌, cond, eqb, List, [], ◌∷◌, ◌++◌, length, get_or, drop, sym, ◌∙◌, add-one, arith, drop-cons, eq-eqb, ne_eqb}
 use Rattle.general.proofs.Cases.{by-eq}
 use Rattle.stuffing.proofs.Codes.{plain, escaped}
 use Rattle.stuffing.specs.Stuff.{escape_of, stuff_byte, total, sum16}
@@ -20,15 +20,6 @@ sum-either s t = omega (arith, total-append s t, total-append t s)
 -- a running sum a that x was added to, with r to come
 pub running : {a' : ℕ} (a x r : ℕ) → a' ≡ (a + x) % 65536 → (a' + r) % 65536 ≡ (a + (x + r)) % 65536
 running a x r e = omega arith
-
-alike : (a b c : ℕ) → a % 65536 ≡ b % 65536 → (a + c) % 65536 ≡ (b + c) % 65536
-alike a b c e = omega arith
-
--- the same of a count, which is x with k to come, and is y after one more
-pub counted : {a' y : ℕ} (a one k x : ℕ) → a' ≡ (a + one) % 65536 → (a + k) % 65536 ≡ x % 65536 → x + one ≡ y → (a' + k) % 65536 ≡ y % 65536
-counted a one k x e f g =
-    let z : a + (one + k) ≡ a + k + one = omega arith in
-    running a one k e ∙ ap (λ (n : ℕ). n % 65536) z ∙ alike (a + k) x one f ∙ ap (λ (n : ℕ). n % 65536) g
 
 -- the bytes from i on: the byte at i, and the others
 pub total-at : (s : List ℕ) (i : ℕ) → i < length s → total (drop i s) ≡ get_or s i 0 + total (drop (i + 1) s)

@@ -12,7 +12,8 @@ pub fn select(x: u8, key: u8, same: u8, other: u8) -> u8
     if x == key { same } else { other }
 }
 
-// The code that stands after FD for a byte; 0 for a byte that stands for itself.
+// The code that stands after FD for a byte; 0 for a byte that stands for itself. No option here or below: the loops choose by the 0,
+// without a branch, and docs/RELAY.md tells it to others.
 #[tactic(auto, unfolding(crate::specs::Stuff::escape_of))]
 pub fn escape_code(b: u8) -> u8
     ensures { result ≡ escape_of b }

@@ -6,24 +6,19 @@ ghost use Rattle.stuffing.specs.Stuff.{stuff, sum16};
 use crate::coding::{escape_code, select};
 use marks::ESC;
 
-// A byte as a sum takes it.
+// A byte as a sum takes it. Here `u16::from` is written; the name stays for those who call it.
 pub fn wide(b: u8) -> u16
     ensures { result ≡ b }
 {
-    b as u16
+    u16::from(b)
 }
 
 // The running checksum of a string.
 pub fn checksum(s: &[u8]) -> u16
     ensures { result ≡ sum16 s.now }
 {
-    let mut sum: u16 = 0;
-    let mut i = 0;
-    while i < s.len() {
-        sum = std::num::wrapping_add_u16(sum, wide(s[i]));
-        i += 1;
-    }
-    sum
+    s.iter()
+        .fold(0u16, |sum, &b| sum.wrapping_add(u16::from(b)))
 }
 
 // Of a string that is stuffed: how many bytes longer it gets, and its running checksum; both wrap at 65,536.
@@ -39,13 +34,10 @@ pub fn tally(s: &[u8]) -> Stuffed
 {
     let mut more: u16 = 0;
     let mut sum: u16 = 0;
-    let mut i = 0;
-    while i < s.len() {
-        let b = s[i];
+    for &b in s {
         let c = escape_code(b);
-        more = std::num::wrapping_add_u16(more, wide(select(c, 0, 0, 1)));
-        sum = std::num::wrapping_add_u16(sum, wide(select(c, 0, b, ESC)) + wide(c));
-        i += 1;
+        more = more.wrapping_add(u16::from(select(c, 0, 0, 1)));
+        sum = sum.wrapping_add(u16::from(select(c, 0, b, ESC)) + u16::from(c));
     }
     Stuffed { more, sum }
 }

@@ -2,8 +2,12 @@
 -- What is told decides the answer; the record beside it is a plain equation.
 use mathlib.Core.Path.{◌≡◌}
 use Rattle.general.proofs.One.{plain}
-use Rattle.error.proofs.Decides.{one_unit}
+use Rattle.error.proofs.Decides.{one-told}
 use Rattle.tracking.proofs.TrackingStatus.decode.Reads as decode
+use Rattle.tracking.proofs.TrackingStatusRecord.read.Reads as read
 
 pub one-decode : (κs a r s x y : _) → decode.Post κs a r x → decode.Post κs a s y → r ≡ s
-one-decode κs a r s x y (p, e) (q, f) = λ i. record { result = one_unit {r = r.result} {s = s.result} p q i; «record» = plain e f i }
+one-decode κs a r s x y (p, e) (q, f) = λ i. record { result = one-told {r = r.result} {s = s.result} p q i; «record» = plain e f i }
+
+pub one-read : (κs a r s x y : _) → read.Post κs a r x → read.Post κs a s y → r ≡ s
+one-read κs a r s x y = plain

@@ -1,2 +1,3 @@
 -- The table of E9.
 pub mod Table
+pub mod Zeros

@@ -3,14 +3,15 @@
 #![tactic(auto)]
 
 ghost use Rattle.std.specs.Prelude.{◌≡◌, ◌≤◌, length, take};
-ghost use Rattle.error.specs.Result.{told_unit};
+ghost use Rattle.error.specs.Result.{told};
 ghost use Rattle.layout.specs.Layout.{answered, source_of, fields_of, zeros};
 ghost use Rattle.tracking.specs.Table.{tracking_of};
+ghost use Rattle.tracking.specs.Zeros.{tracking-zeros};
 
-use error::{ResultUnit, WireError};
+use layout::{Decoded, Record};
 
 // E9, sent five times for a shot, in three phases: where the radar stands in its samples.
-#[derive(Drop)]
+#[derive(Default, Drop)]
 pub struct TrackingStatus {
     // bits of the state, as sent
     pub state: u8,
@@ -50,86 +51,55 @@ pub struct TrackingStatus {
     pub track_measure4: u16,
 }
 
-// The answer, and the record beside it.
-#[derive(Drop)]
-pub struct ResultTrackingStatus {
-    pub result: ResultUnit,
-    pub record: TrackingStatus,
-}
-
 impl TrackingStatus {
-    pub fn decode(payload: &[u8]) -> ResultTrackingStatus
-        ensures result_value { told_unit result.result ≡ answered 0xE9 82 payload.now }
+    pub fn decode(payload: &[u8]) -> Decoded<TrackingStatus>
+        ensures result_value { told result.result ≡ answered 0xE9 82 payload.now }
         ensures record_value { result.«record» ≡ tracking_of (source_of 82 payload.now) }
     {
-        let got = payload.len();
-        if got < 82 {
-            return ResultTrackingStatus {
-                result: ResultUnit::Err(WireError::payload_too_short(0xE9, 82, got)),
-                record: zero_tracking(),
-            };
-        }
-        ResultTrackingStatus {
-            result: ResultUnit::Ok,
-            record: read_tracking(payload),
-        }
+        layout::decode(payload)
     }
 }
 
-// The record of a payload that is long enough.
-fn read_tracking(payload: &[u8]) -> TrackingStatus
-    requires { 82 ≤ length payload.now }
-    ensures { result ≡ tracking_of (fields_of (take 82 payload.now)) }
-{
-    let d = &payload[..82];
-    TrackingStatus {
-        state: integer::byte_at(d, 1),
-        flags: integer::byte_at(d, 2),
-        pre_trig_buf_start: integer::uint24_at(d, 22),
-        club_impact_idx: integer::uint24_at(d, 25),
-        trigger_idx: integer::uint24_at(d, 28),
-        radar_cal1: integer::uint24_at(d, 32),
-        radar_cal2: integer::uint24_at(d, 35),
-        radar_cal_avr: integer::uint16_at(d, 38),
-        processing_iteration: integer::byte_at(d, 47),
-        result_quality: integer::byte_at(d, 48),
-        detection_subtype: integer::byte_at(d, 51),
-        prc_tracking_count: integer::byte_at(d, 54),
-        radar_measurement: integer::uint16_at(d, 56),
-        trigger_flags: integer::byte_at(d, 59),
-        event_counter: integer::uint16_at(d, 62),
-        radar_baseline: integer::int24_at(d, 67),
-        track_measure: [
-            integer::int24_at(d, 70),
-            integer::int24_at(d, 73),
-            integer::int24_at(d, 76),
-        ],
-        track_measure4: integer::uint16_at(d, 80),
-    }
-}
+impl Record for TrackingStatus {
+    ghost KIND = { 0xE9 };
 
-// The record beside a refusal: every number is zero.
-fn zero_tracking() -> TrackingStatus
-    ensures { result ≡ tracking_of zeros }
-{
-    TrackingStatus {
-        state: 0,
-        flags: 0,
-        pre_trig_buf_start: 0,
-        club_impact_idx: 0,
-        trigger_idx: 0,
-        radar_cal1: 0,
-        radar_cal2: 0,
-        radar_cal_avr: 0,
-        processing_iteration: 0,
-        result_quality: 0,
-        detection_subtype: 0,
-        prc_tracking_count: 0,
-        radar_measurement: 0,
-        trigger_flags: 0,
-        event_counter: 0,
-        radar_baseline: 0,
-        track_measure: [0; 3],
-        track_measure4: 0,
+    ghost LEAST = { 82 };
+
+    ghost filled = { λ p. tracking_of (fields_of (take 82 p)) };
+
+    ghost nothing = { tracking_of zeros };
+
+    const KIND: u8 = 0xE9;
+
+    const LEAST: usize = 82;
+
+    fn read(payload: &[u8]) -> TrackingStatus {
+        let d = &payload[..82];
+        TrackingStatus {
+            state: integer::byte_at(d, 1),
+            flags: integer::byte_at(d, 2),
+            pre_trig_buf_start: integer::uint24_at(d, 22),
+            club_impact_idx: integer::uint24_at(d, 25),
+            trigger_idx: integer::uint24_at(d, 28),
+            radar_cal1: integer::uint24_at(d, 32),
+            radar_cal2: integer::uint24_at(d, 35),
+            radar_cal_avr: integer::uint16_at(d, 38),
+            processing_iteration: integer::byte_at(d, 47),
+            result_quality: integer::byte_at(d, 48),
+            detection_subtype: integer::byte_at(d, 51),
+            prc_tracking_count: integer::byte_at(d, 54),
+            radar_measurement: integer::uint16_at(d, 56),
+            trigger_flags: integer::byte_at(d, 59),
+            event_counter: integer::uint16_at(d, 62),
+            radar_baseline: integer::int24_at(d, 67),
+            track_measure: [
+                integer::int24_at(d, 70),
+                integer::int24_at(d, 73),
+                integer::int24_at(d, 76),
+            ],
+            track_measure4: integer::uint16_at(d, 80),
+        }
     }
+
+    ghost default_is_nothing = { tracking-zeros };
 }

@@ -1,7 +1,6 @@
 -- Proper strings unstuff and no others do, to as many bytes as they have without their FDs.
 -- `proper-pair` and `proper-last` tell a proper string from its neighbouring pairs.
-use Rattle.std.proofs.Common.{◌≡◌, ℕ, ◌+◌, ◌≤◌, cond, eqb, List, [], ◌∷◌, length, refl, ap, ◌∙◌, arith, eq-eqb, ne_eqb}
-use lib.Bits.{bit_or, or_add_and, and_le_l, and_le_r}
+use Rattle.std.proofs.Common.{◌≡◌, ℕ, ◌+◌, ◌≤◌, Bool, true, false, ◌&&◌, cond, eqb, List, [], ◌∷◌, length, refl, ap, ◌∙◌, arith, eq-eqb, ne_eqb}
 use Rattle.error.specs.Refusal.{Told, yes, no}
 use Rattle.general.proofs.Cases.{by-test, by-eq}
 use Rattle.stuffing.specs.Stuff.{unescape_of}
@@ -61,20 +60,20 @@ length-units i (escape {b} {c} e h p) = rw (eq-eqb b 0xFD e, ne_eqb c 0xFD (code
 
 -- ---- from pairs of neighbours
 
--- 1 where p is FD and what follows it is no code
-abbrev pub fault_of : ℕ → ℕ → ℕ
-fault_of p c = cond (eqb p 0xFD) (cond (eqb (unescape_of c) 0) 1 0) 0
+-- p is FD and what follows it is no code
+abbrev pub is_fault : ℕ → ℕ → Bool
+is_fault p c = eqb p 0xFD && eqb (unescape_of c) 0
 
 proper-tail : {b : ℕ} {l : List ℕ} → (b ≡ 0xFD → ⊥) → Proper (b ∷ l) → Proper l
 proper-tail h (byte g p) = p
 proper-tail h (escape e g p) = absurd (h e)
 
-pub proper-pair : (p b : ℕ) (l : List ℕ) → fault_of p b ≡ 0 → Proper (b ∷ l) → Proper (p ∷ b ∷ l)
+pub proper-pair : (p b : ℕ) (l : List ℕ) → is_fault p b ≡ false → Proper (b ∷ l) → Proper (p ∷ b ∷ l)
 proper-pair p b l f q =
     by-eq p 0xFD
     (λ h.
     by-eq (unescape_of b) 0
-    (λ g. let z : ◌≡◌ {A = ℕ} 1 0 = rw (eq-eqb p 0xFD h, eq-eqb (unescape_of b) 0 g) at f in absurd (let x : ⊥ = omega arith in x))
+    (λ g. let z : true ≡ false = rw (eq-eqb p 0xFD h, eq-eqb (unescape_of b) 0 g) at f in cc)
     (λ g. escape h g (proper-tail (code_other g) q)))
     (λ h. byte h q)
 
@@ -82,14 +81,11 @@ code-0 : unescape_of 0 ≡ 0
 unfolding unescape_of
 code-0 = refl
 
-pub proper-last : (p : ℕ) → fault_of p 0 ≡ 0 → Proper (p ∷ [])
+pub proper-last : (p : ℕ) → is_fault p 0 ≡ false → Proper (p ∷ [])
 proper-last p f =
     by-eq p 0xFD
-    (λ h. let z : ◌≡◌ {A = ℕ} 1 0 = rw (eq-eqb p 0xFD h, code-0) at f in absurd (let x : ⊥ = omega arith in x))
+    (λ h. let z : true ≡ false = rw (eq-eqb p 0xFD h, code-0) at f in cc)
     (λ h. byte h none)
-
-pub both_zero : (a b : ℕ) → bit_or a b ≡ 0 → (a ≡ 0) × (b ≡ 0)
-both_zero a b e = (omega (arith, or_add_and a b, and_le_l a b, and_le_r a b), omega (arith, or_add_and a b, and_le_l a b, and_le_r a b))
 
 -- a byte is kept, or is one FD more
 pub kept-flag : (p : ℕ) (l : List ℕ) {s : List ℕ} {flag : ℕ} → s ≡ p ∷ l → flag ≡ cond (eqb p 0xFD) 1 0 → kept s + flag ≡ 1 + kept l

@@ -1,10 +1,7 @@
 -- A client may skip this file: words for the private walks over stuffed strings, which no public contract cites.
 -- They speak of proper strings (specs/Escapes), but for a step's answer.
 use Rattle.std.specs.Prelude.{ℕ, ◌+◌, cond, List, [], ◌∷◌, ◌==◌}
-use Rattle.error.specs.Refusal.{Told, yes, refused}
 use Rattle.stuffing.specs.Stuff.{unescape_of}
-use Rattle.unstuffing.specs.declared.ResultU8.{ResultU8}
-use Rattle.unstuffing.specs.declared.ResultU8.TheVariants.{Ok, Err}
 
 -- how many bytes are not FD: as many as a proper string unstuffs to
 abbrev pub kept : List ℕ → ℕ
@@ -20,8 +17,3 @@ abbrev pub value_of : List ℕ → ℕ
 value_of [] = 0
 value_of (b ∷ []) = b
 value_of (b ∷ c ∷ l) = cond (b == 0xFD) (unescape_of c) b
-
--- a step's answer, as it is told
-abbrev pub told_u8 : ResultU8 → Told ℕ
-told_u8 (Ok b) = yes b
-told_u8 (Err e) = refused e

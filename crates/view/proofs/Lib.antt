@@ -1,3 +1,3 @@
--- The laws of the view's rule, and that it fixes the part that is returned.
-pub mod Laws
+-- That the rule of the view fixes the part that is returned.
+-- The check finds the rest by itself.
 pub mod One

@@ -14,18 +14,9 @@ pub fn view<'a>(chunk: &'a [u8], hold: &'a [u8], place: Place) -> &'a [u8]
 {
     let from = place.start;
     let len = place.len;
-    if place.in_hold {
-        if from <= hold.len() {
-            if len <= hold.len() - from {
-                return &hold[from..from + len];
-            }
-        }
-        return &chunk[0..0];
-    }
-    if from <= chunk.len() {
-        if len <= chunk.len() - from {
-            return &chunk[from..from + len];
-        }
+    let buffer = if place.in_hold { hold } else { chunk };
+    if from <= buffer.len() && len <= buffer.len() - from {
+        return &buffer[from..from + len];
     }
     &chunk[0..0]
 }

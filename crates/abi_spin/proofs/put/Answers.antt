@@ -12,10 +12,8 @@ loop-i-preserved c =
     let a = c.args in
     let i = c.loop-i.i in
     let n : length a.a ≡ 15 = search rules in
-    let m : length a.rest ≡ 15 = search rules in (
-      omega arith,
-      (λ k.
-          set (set (set (c.loop-i.invariant.1 k) (1 + i * 2) (held w32 c.rpm.ensures c.rpm.type_inv k)) (2 + i * 2) (held w32 c.snr.ensures c.snr.type_inv k))
-          (31 + i) (to_z-of_z w32 (get_or a.rest i (pos 0)) (search rules) k))
-          ∙ both-more a.a a.rest a.whole.now i _ (pos 0) (omega arith) (omega arith) (omega arith),
-    )
+    let m : length a.rest ≡ 15 = search rules in
+    (λ k.
+    set (set (set (c.loop-i.invariant k) (1 + i * 2) (held w32 c.rpm.ensures c.rpm.type_inv k)) (2 + i * 2) (held w32 c.snr.ensures c.snr.type_inv k))
+    (31 + i) (to_z-of_z w32 (get_or a.rest i (pos 0)) (search rules) k))
+    ∙ both-more a.a a.rest a.whole.now i _ (pos 0) (omega arith) (omega arith) (omega arith)

@@ -15,5 +15,5 @@ returns c =
     c.put.ensures
     ∙ (λ i.
     sets (sets (set (replicate 46 (pos 0)) 0 (held w32 c.byte.ensures c.byte.type_inv i)) 1 (elements_whole r.antenna_data))
-    31 (c.spin_rest-rest.ensures i))
+    31 (c.spin_rest.ensures i))
     ∙ joined (pos r.version) r.antenna_data (spin_rest r) (replicate 46 (pos 0)) n refl refl

@@ -14,7 +14,6 @@ turn s a k b g n is e =
 
 pub loop-k-preserved : goal.loop-k-preserved
 loop-k-preserved c = (
-  omega arith,
-  simp length-set c.loop-k.invariant.1,
-  turn c.args.s.now c.loop-k.a c.loop-k.k c.byte_at.result c.loop-k-test.true c.loop-k.invariant.1 c.byte_at.ensures c.loop-k.invariant.2,
+  simp length-set c.loop-k.invariant.0,
+  turn c.args.s.now c.loop-k.x-items c.loop-k.k c.byte_at.result (omega arith) c.loop-k.invariant.0 c.byte_at.ensures c.loop-k.invariant.1,
 )

@@ -1,6 +1,7 @@
 -- `check_head`: DEST, then SRC, each as its byte tells (`told`).
 -- The places of the two and of TYPE follow from the widths before them.
-use Rattle.std.proofs.Common.{ap, ◌∙◌}
+use Rattle.std.proofs.Common.{refl, ap, ◌∙◌}
+use Rattle.error.proofs.Passed.{passed-up}
 use Rattle.addr.specs.Address.{address_rule}
 use Rattle.checking.proofs.Reading.{src-proper, src-inside, type-proper, type-inside, head-told}
 use Rattle.checking.proofs.check_head.Goals as goal
@@ -15,29 +16,30 @@ value-requires-2 c = (
   src-inside c.args.body.now c.requires.0 c.requires.1 c.next-src_at.result c.next-src_at.ensures,
 )
 
-pub value-type_id-requires : goal.value-type_id-requires
-value-type_id-requires c = (
+pub value-requires-3 : goal.value-requires-3
+value-requires-3 c = (
   type-proper c.args.body.now c.requires.0 c.requires.1 c.next-src_at.result c.next-src_at.ensures c.next-type_at.result c.next-type_at.ensures,
   type-inside c.args.body.now c.requires.0 c.requires.1 c.next-src_at.result c.next-src_at.ensures c.next-type_at.result c.next-type_at.ensures,
 )
 
-pub returns-in-Err : goal.returns-in-Err
-returns-in-Err c =
-    head-told c.args.body.now c.requires.0 c.requires.1 c.next-src_at.result c.next-src_at.ensures c.next-type_at.result c.next-type_at.ensures
-    c.args.len c.value-type_id.result c.next-from.result _ _
-    (c.in-Err.ensures ∙ ap address_rule c.value.ensures) (ap address_rule c.value-2.ensures)
-    c.value-type_id.ensures c.next-from.ensures
+pub returns-in_err-dest : goal.returns-in_err-dest
+returns-in_err-dest c =
+    passed-up c.from_residual.result c.in_err-dest.field-0.0 c.from_residual.ensures.1
+    ∙ head-told c.args.body.now c.requires.0 c.requires.1 c.next-src_at.result c.next-src_at.ensures c.next-type_at.result c.next-type_at.ensures
+    c.args.len _ c.next-from.result _ _
+    (c.in_err-dest.ensures ∙ ap address_rule c.value.ensures) refl refl c.next-from.ensures
 
-pub returns-in-Err-s : goal.returns-in-Err-s
-returns-in-Err-s c =
-    head-told c.args.body.now c.requires.0 c.requires.1 c.next-src_at.result c.next-src_at.ensures c.next-type_at.result c.next-type_at.ensures
-    c.args.len c.value-type_id.result c.next-from.result _ _
-    (c.in-Ok.ensures ∙ ap address_rule c.value.ensures) (c.in-Err-s.ensures ∙ ap address_rule c.value-2.ensures)
-    c.value-type_id.ensures c.next-from.ensures
+pub returns-in_err-src : goal.returns-in_err-src
+returns-in_err-src c =
+    passed-up c.from_residual-in_err-src.result c.in_err-src.field-0.0 c.from_residual-in_err-src.ensures.1
+    ∙ head-told c.args.body.now c.requires.0 c.requires.1 c.next-src_at.result c.next-src_at.ensures c.next-type_at.result c.next-type_at.ensures
+    c.args.len _ c.next-from.result _ _
+    (c.in_ok-dest.ensures ∙ ap address_rule c.value.ensures) (c.in_err-src.ensures ∙ ap address_rule c.value-2.ensures)
+    refl c.next-from.ensures
 
-pub returns-in-Ok-s : goal.returns-in-Ok-s
-returns-in-Ok-s c =
+pub returns : goal.returns
+returns c =
     head-told c.args.body.now c.requires.0 c.requires.1 c.next-src_at.result c.next-src_at.ensures c.next-type_at.result c.next-type_at.ensures
-    c.args.len c.value-type_id.result c.next-from.result _ _
-    (c.in-Ok.ensures ∙ ap address_rule c.value.ensures) (c.in-Ok-s.ensures ∙ ap address_rule c.value-2.ensures)
-    c.value-type_id.ensures c.next-from.ensures
+    c.args.len c.value-3.result c.next-from.result _ _
+    (c.in_ok-dest.ensures ∙ ap address_rule c.value.ensures) (c.in_ok-src.ensures ∙ ap address_rule c.value-2.ensures)
+    c.value-3.ensures c.next-from.ensures

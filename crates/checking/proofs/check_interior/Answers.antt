@@ -7,17 +7,17 @@ use Rattle.checking.proofs.check_interior.Goals as goal
 
 pub check_sum-requires : goal.check_sum-requires
 check_sum-requires c =
-    let k = counted-yes c.args.s.now c.in-Ok.n c.in-Ok.ensures in
+    let k = counted-yes c.args.s.now c.in_ok-n.n c.in_ok-n.ensures in
     (k.proper, k.count, omega arith)
 
 pub returns-then-n-lt5 : goal.returns-then-n-lt5
 returns-then-n-lt5 c =
-    let k = counted-yes c.args.s.now c.in-Ok.n c.in-Ok.ensures in
+    let k = counted-yes c.args.s.now c.in_ok-n.n c.in_ok-n.ensures in
     let n : length k.us < 5 = rw (← k.length) c.if-n-lt5.true in
     rw (k.is, few k.us c.args.s.now c.args.whole n)
 
-pub returns-else-n-lt5 : goal.returns-else-n-lt5
-returns-else-n-lt5 c =
-    let k = counted-yes c.args.s.now c.in-Ok.n c.in-Ok.ensures in
+pub returns : goal.returns
+returns c =
+    let k = counted-yes c.args.s.now c.in_ok-n.n c.in_ok-n.ensures in
     let n : 5 ≤ length k.us = rw (← k.length) c.if-n-lt5.false in
     rw (k.is, many k.us c.args.s.now c.args.whole n) (rw k.is at c.check_sum.ensures)

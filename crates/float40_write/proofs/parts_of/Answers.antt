@@ -64,12 +64,12 @@ module _ (b : ℕ) (some : bit_and b 9223372036854775807 ≡ 0 → ⊥) where
       to_z-of_z w32 _ negated_fits ∙ negated ∙ ap (λ (n : ℕ). neg_ℤ (pos n)) (size_is b)
       ∙ ap (λ (s : Bool). with_sign s (size_of b)) (sym (le-leb (2 ^ 63) b h)) ∙ sym parts.1
 
-pub returns-then-sign-ne0 : goal.returns-then-sign-ne0
-returns-then-sign-ne0 c =
+pub returns-then-bits-ne0 : goal.returns-then-bits-ne0
+returns-then-bits-ne0 c =
     let some = c.if-bits-eq0.false in
-    (exponent c.args.bits some, less c.args.bits some (omega (arith, c.if-sign-ne0.true)))
+    (exponent c.args.bits some, less c.args.bits some (omega (arith, c.if-bits-ne0.true)))
 
-pub returns : goal.returns
-returns c =
+pub returns-else-bits-ne0 : goal.returns-else-bits-ne0
+returns-else-bits-ne0 c =
     let some = c.if-bits-eq0.false in
-    (exponent c.args.bits some, plus c.args.bits some (omega (arith, c.if-sign-ne0.false)))
+    (exponent c.args.bits some, plus c.args.bits some (omega (arith, c.if-bits-ne0.false)))

@@ -5,8 +5,9 @@ use borrow.Rule.Slice.PartMut.{put_mid}
 use Rattle.error.specs.Refusal.{no}
 use Rattle.integer.specs.Fields.{need_at}
 use Rattle.integer_write.proofs.Cases.{writes, no_room}
+use Rattle.integer_write.proofs.Runs.{put_back}
 use Rattle.float40_write.specs.Writing.{bytes40}
-use Rattle.float40_write.proofs.Five.{five, put_back}
+use Rattle.float40_write.proofs.Five.{five}
 use Rattle.float40_write.proofs.write_float40_bits.Goals as goal
 
 pub returns-then-got-need : goal.returns-then-got-need

@@ -1,21 +1,17 @@
--- What is left of `int16_at`: the number of two bytes fits an i16.
--- So the cast keeps it.
-use Rattle.std.proofs.Common.{arith, rules, sym, subst, ◌∙◌, ℤ, w32, FitsSigned}
-use lib.Dec.{lit≤}
+-- What is left of `int16_at`: what std makes of the bytes is the number that they stand for.
+-- The bytes are those at the place.
+use Rattle.std.proofs.Common.{arith, rules, refl, ap, ◌∙◌, to_z}
 use mir.Syntax.{w16}
 use mir.ValLaws.{to_z-of_z}
 use Rattle.integer.specs.Fields.{be_at, int_at}
 use Rattle.integer.proofs.BigEndian.{be-lt}
-use Rattle.integer.proofs.Complement.{signed-fits}
+use Rattle.integer.proofs.Complement.{of-type}
 use Rattle.integer.proofs.int16_at.Goals as goal
 
-pub overflow_cast-result : goal.overflow_cast-result
-unfolding int_at
-overflow_cast-result c =
-    let a = c.args in
-    let n = be_at 2 a.«data».now a.offset in
-    subst (λ (z : ℤ). FitsSigned w16 z) (sym (to_z-of_z w32 c.int_at.result (search rules) ∙ c.int_at.ensures))
-    (signed-fits w16 16 n (omega arith) (lit≤ tt) (be-lt 2 a.«data».now a.offset (λ i. (c.type_inv.«data» i).fits)))
-
 pub returns : goal.returns
-returns c = to_z-of_z w16 _ (overflow_cast-result c) ∙ to_z-of_z w32 c.int_at.result (search rules) ∙ c.int_at.ensures
+unfolding be_at int_at
+returns c =
+    let b = c.bytes_at.ensures in
+    let n = be_at 2 c.args.«data».now c.args.offset in
+    let g = be-lt 2 c.args.«data».now c.args.offset (λ i. (c.type_inv.«data» i).fits) in
+    to_z-of_z w16 _ (search rules) ∙ c.from_be_bytes.ensures ∙ ap (to_z w16) (omega (arith, b 0 (omega arith), b 1 (omega arith))) ∙ of-type w16 n refl g

@@ -4,14 +4,17 @@ use Rattle.std.proofs.Common.{rules, ap, ◌∙◌}
 use mir.Syntax.{w16}
 use mir.ValLaws.{to_z-of_z}
 use Rattle.error.specs.Refusal.{yes}
+use Rattle.error.proofs.Passed.{passed-up}
 use Rattle.integer.specs.Fields.{int_at}
 use Rattle.integer_read.proofs.Turned.{checked}
 use Rattle.integer_read.proofs.read_int16.Goals as goal
 
-pub returns-in-Ok : goal.returns-in-Ok
-returns-in-Ok c =
-    ap yes (to_z-of_z w16 c.int16_at.result (search rules) ∙ c.int16_at.ensures)
-    ∙ checked 1 2 (int_at 2) c.args.«data».now c.args.offset c.check_len.ensures c.in-Ok.is
+pub returns-in_err-check_len : goal.returns-in_err-check_len
+returns-in_err-check_len c =
+    passed-up c.from_residual.result c.in_err-check_len.field-0.0 c.from_residual.ensures.1
+    ∙ checked 1 2 (int_at 2) c.args.«data».now c.args.offset c.check_len.ensures c.in_err-check_len.was
 
-pub returns-in-Err : goal.returns-in-Err
-returns-in-Err c = checked 1 2 (int_at 2) c.args.«data».now c.args.offset c.check_len.ensures c.in-Err.is
+pub returns : goal.returns
+returns c =
+    ap yes (to_z-of_z w16 c.int16_at.result (search rules) ∙ c.int16_at.ensures)
+    ∙ checked 1 2 (int_at 2) c.args.«data».now c.args.offset c.check_len.ensures c.in_ok-check_len.was

@@ -2,14 +2,17 @@
 -- The refusal is passed on as it is.
 use Rattle.std.proofs.Common.{ap, ◌∙◌}
 use Rattle.error.specs.Refusal.{yes}
+use Rattle.error.proofs.Passed.{passed-up}
 use Rattle.integer.specs.Fields.{be_at}
 use Rattle.integer_read.proofs.Turned.{checked}
 use Rattle.integer_read.proofs.read_uint24.Goals as goal
 
-pub returns-in-Ok : goal.returns-in-Ok
-returns-in-Ok c =
-    ap yes c.uint24_at.ensures
-    ∙ checked 4 3 (be_at 3) c.args.«data».now c.args.offset c.check_len.ensures c.in-Ok.is
+pub returns-in_err-check_len : goal.returns-in_err-check_len
+returns-in_err-check_len c =
+    passed-up c.from_residual.result c.in_err-check_len.field-0.0 c.from_residual.ensures.1
+    ∙ checked 4 3 (be_at 3) c.args.«data».now c.args.offset c.check_len.ensures c.in_err-check_len.was
 
-pub returns-in-Err : goal.returns-in-Err
-returns-in-Err c = checked 4 3 (be_at 3) c.args.«data».now c.args.offset c.check_len.ensures c.in-Err.is
+pub returns : goal.returns
+returns c =
+    ap yes c.uint24_at.ensures
+    ∙ checked 4 3 (be_at 3) c.args.«data».now c.args.offset c.check_len.ensures c.in_ok-check_len.was

@@ -1,12 +1,11 @@
--- What is left of `bits_of`: with 2 ^ 32 added no number is negative, and the remainder is its bits.
--- The sum is taken in 64 bits, where it fits (`Bias`).
-use Rattle.std.proofs.Common.{ap, ◌∙◌, ◌%◌, ℤ, w32, w64}
-use lib.IntN.{nat_abs}
-use mir.ValLaws.{half_full}
-use Rattle.integer_write.proofs.Bias.{lift-bits, sum_back}
+-- What is left of `bits_of`: std's bits of an i32 are its 32 bits in two's complement.
+-- They are so for every width.
+use Rattle.std.proofs.Common.{ap, ◌∙◌, w32, of_z}
+use mir.ValLaws.{to_z-of_z, half_full}
+use Rattle.integer_write.proofs.Bits.{of-type}
 use Rattle.integer_write.proofs.bits_of.Goals as goal
 
 pub returns : goal.returns
 returns c =
-    ap (λ (z : ℤ). nat_abs z % 4294967296) (sum_back w32 w64 4294967296 c.args.val c.ranges.val (half_full w32 c.ranges.val.sfits) tt tt)
-    ∙ lift-bits 32 c.args.val (half_full w32 c.ranges.val.sfits)
+    c.cast_unsigned.ensures ∙ ap (of_z w32) (to_z-of_z w32 c.args.val c.ranges.val)
+    ∙ of-type w32 c.args.val (half_full w32 c.ranges.val.sfits)

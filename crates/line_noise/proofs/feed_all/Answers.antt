@@ -1,45 +1,60 @@
--- One call of the splitter in `feed_all`: what is taken moves on, and the rest is what the rule has left to take.
-use Rattle.std.proofs.Common.{◌≡◌, drop, arith}
+-- One call of the splitter in `feed_all`: what is taken moves on, and what is left is what the rule has left to take.
+-- A part of the piece goes from an index to the end (`take_rest`).
+use Rattle.std.proofs.Common.{◌≡◌, ◌<◌, length, sym, rules, ◌∙◌, arith, length-drop}
+use Rattle.std.proofs.lemmas.List.{take_rest}
+use Rattle.std.specs.declared.result.Result.TheVariants.{Ok}
 use Rattle.splitter.specs.Feed.{given_by}
-use Rattle.session.proofs.Pieces.{part-from}
+use Rattle.stream.proofs.Ends.{fed-within}
+use Rattle.session.proofs.Pieces.{some, none}
 use Rattle.line_noise.specs.Piece.{between, offered}
-use Rattle.line_noise.proofs.Pieces.{going, moves, inside, goes_on, finished}
+use Rattle.line_noise.proofs.Pieces.{going, moves, is_fed, goes_on, finished}
 use Rattle.line_noise.proofs.feed_all.Goals as goal
 
-pub loop-at-init : goal.loop-at-init
-loop-at-init c =
+pub loop-rest-init : goal.loop-rest-init
+loop-rest-init c =
     let a = c.args in
-    going (between a.start a.hold.now) a.chunk.now (record { good = c.requires.0; free = c.requires.1 })
+    going (between a.splitter.now a.hold.now) a.chunk.now (record { good = c.requires.0; free = c.requires.1 })
 
-pub overflow_add-at : goal.overflow_add-at
-overflow_add-at c =
+pub unwrap-fed-requires : goal.unwrap-fed-requires
+unwrap-fed-requires c =
     let a = c.args in
-    let l = c.loop-at in
-    let f = c.feed-fed in
-    let e : given_by f.result f.new.hold ≡ offered (between l.splitter l.hold) (drop l.at a.chunk.now) = rw (part-from a.chunk.now l.at) at f.ensures in
-    omega (arith, inside (between a.start a.hold.now) a.chunk.now l.invariant c.loop-at-test.true f.result f.new.hold e)
+    let l = c.loop-rest in
+    let h : 0 < length l.rest.now = some _ (sym c.is_empty.ensures ∙ c.loop-rest-test.true) in
+    is_fed (between a.splitter.now a.hold.now) a.chunk.now l.invariant h c.feed.result c.feed.new.self c.feed.new.hold c.feed.ensures
 
-pub loop-at-smaller : goal.loop-at-smaller
-loop-at-smaller c =
-    let a = c.args in
-    let l = c.loop-at in
-    let f = c.feed-fed in
-    let e : given_by f.result f.new.hold ≡ offered (between l.splitter l.hold) (drop l.at a.chunk.now) = rw (part-from a.chunk.now l.at) at f.ensures in
-    omega (
-      arith,
-      inside (between a.start a.hold.now) a.chunk.now l.invariant c.loop-at-test.true f.result f.new.hold e,
-      moves (between a.start a.hold.now) a.chunk.now l.invariant c.loop-at-test.true f.result f.new.hold e,
-    )
+pub slice_bounds-rest-count : goal.slice_bounds-rest-count
+slice_bounds-rest-count c =
+    let l = c.loop-rest in
+    fed-within (Ok c.unwrap-fed.result) c.feed.new.self c.feed.new.hold l.splitter l.hold l.rest.now (rw c.unwrap-fed.ensures at c.feed.ensures)
 
-pub loop-at-preserved : goal.loop-at-preserved
-loop-at-preserved c =
+pub slice_bounds-rest-start : goal.slice_bounds-rest-start
+slice_bounds-rest-start c =
+    let l = c.loop-rest in
+    let w = fed-within (Ok c.unwrap-fed.result) c.feed.new.self c.feed.new.hold l.splitter l.hold l.rest.now (rw c.unwrap-fed.ensures at c.feed.ensures) in
+    search rules
+
+pub loop-rest-smaller : goal.loop-rest-smaller
+loop-rest-smaller c =
     let a = c.args in
-    let l = c.loop-at in
-    let f = c.feed-fed in
-    let e : given_by f.result f.new.hold ≡ offered (between l.splitter l.hold) (drop l.at a.chunk.now) = rw (part-from a.chunk.now l.at) at f.ensures in
-    goes_on (between a.start a.hold.now) a.chunk.now l.invariant c.loop-at-test.true f.result f.new.hold e f.auto.hold
+    let l = c.loop-rest in
+    let f = c.unwrap-fed.result in
+    let h : 0 < length l.rest.now = some _ (sym c.is_empty.ensures ∙ c.loop-rest-test.true) in
+    let e : given_by (Ok f) c.feed.new.self c.feed.new.hold ≡ offered (between l.splitter l.hold) l.rest.now = rw c.unwrap-fed.ensures at c.feed.ensures in
+    let m = moves (between a.splitter.now a.hold.now) a.chunk.now l.invariant h (Ok f) c.feed.new.self c.feed.new.hold e in
+    rw (take_rest l.rest.now f.taken, length-drop f.taken l.rest.now) (omega (arith, m))
+
+pub loop-rest-preserved : goal.loop-rest-preserved
+loop-rest-preserved c =
+    let a = c.args in
+    let l = c.loop-rest in
+    let f = c.unwrap-fed.result in
+    let h : 0 < length l.rest.now = some _ (sym c.is_empty.ensures ∙ c.loop-rest-test.true) in
+    let e : given_by (Ok f) c.feed.new.self c.feed.new.hold ≡ offered (between l.splitter l.hold) l.rest.now = rw c.unwrap-fed.ensures at c.feed.ensures in
+    let more = goes_on (between a.splitter.now a.hold.now) a.chunk.now l.invariant h (Ok f) c.feed.new.self c.feed.new.hold e c.feed.auto.hold in
+    rw (take_rest l.rest.now f.taken) more
 
 pub returns : goal.returns
 returns c =
     let a = c.args in
-    finished (between a.start a.hold.now) a.chunk.now c.loop-at.invariant c.loop-at-test.false
+    let l = c.loop-rest in
+    finished (between a.splitter.now a.hold.now) a.chunk.now l.invariant (none _ (sym c.is_empty.ensures ∙ c.loop-rest-test.false))

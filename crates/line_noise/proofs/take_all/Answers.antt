@@ -9,15 +9,15 @@ use Rattle.line_noise.proofs.take_all.Goals as goal
 pub returns-then-is_bad : goal.returns-then-is_bad
 returns-then-is_bad c =
     let a = c.args in
-    take-bad (between a.splitter a.hold.now) a.chunk.now (sym c.is_bad.ensures ∙ c.if-is_bad.true)
+    take-bad (between a.splitter.now a.hold.now) a.chunk.now (sym c.is_bad.ensures ∙ c.if-is_bad.true)
 
 pub returns-then-is_full : goal.returns-then-is_full
 returns-then-is_full c =
     let a = c.args in
-    take-full (between a.splitter a.hold.now) a.chunk.now (sym c.is_bad.ensures ∙ c.if-is_bad.false) (sym c.is_full.ensures ∙ c.if-is_full.true)
+    take-full (between a.splitter.now a.hold.now) a.chunk.now (sym c.is_bad.ensures ∙ c.if-is_bad.false) (sym c.is_full.ensures ∙ c.if-is_full.true)
 
 pub returns : goal.returns
 returns c =
     let a = c.args in
-    ap (outcome (yes tt)) c.feed_all-after.ensures
-    ∙ take-free (between a.splitter a.hold.now) a.chunk.now (sym c.is_bad.ensures ∙ c.if-is_bad.false) (sym c.is_full.ensures ∙ c.if-is_full.false)
+    ap (outcome (yes tt)) c.feed_all.ensures
+    ∙ take-free (between a.splitter.now a.hold.now) a.chunk.now (sym c.is_bad.ensures ∙ c.if-is_bad.false) (sym c.is_full.ensures ∙ c.if-is_full.false)

@@ -1,24 +1,13 @@
--- `has` meets its contract.
--- Where the byte is not at i + k, what is sought goes on from the next index.
-use Rattle.std.proofs.Common.{◌≡◌, ℕ, true, false, ◌+◌, sym, ap, ◌∙◌, arith}
-use Rattle.search.specs.First.{first_from}
-use Rattle.search.proofs.First.{first-miss}
+-- `has` meets its contract: the chain folds "or" over the block's bytes.
+-- That is whether one of them is b.
+use Rattle.std.proofs.Common.{◌∙◌, false, ◌||◌, nat_eq, rules, tests}
+use Rattle.std.proofs.lemmas.Iterator.{YieldsList-from_slice}
+use Rattle.std.proofs.lemmas.Iterator.Consumers.{fold_from_yields_List}
+use Rattle.search.proofs.First.{has_is}
 use Rattle.search.proofs.has.Goals as goal
-use Rattle.search.proofs.has.Goals.{then-a-i, else-a-i}
 
-pub loop-k-preserved : goal.loop-k-preserved
-loop-k-preserved c =
+pub returns : goal.returns
+returns c =
     let a = c.args in
-    let n : a.i + c.loop-k.k + 1 ≡ a.i + (c.loop-k.k + 1) = omega arith in (
-      omega arith,
-      λ h.
-          elim c.if-a-i.branch [
-            | then-a-i w ↦
-                let z : true ≡ false = sym w.hit-is ∙ h in
-                cc
-            | else-a-i w ↦
-                c.loop-k.invariant.1 (sym w.hit-is ∙ h)
-                ∙ first-miss a.b (a.i + c.loop-k.k) a.a.now (omega arith) w.if-a-i.false
-                ∙ ap (λ (x : ℕ). first_from a.b x a.a.now) n
-          ],
-    )
+    fold_from_yields_List _ (λ h x. h || nat_eq x a.b) false c.fold.result c.fold.ensures.ran (YieldsList-from_slice a.block.now cc) (λ h x r q k. search (rules, tests))
+    ∙ has_is a.b a.block.now

@@ -8,11 +8,8 @@ use Rattle.splitter.proofs.lay.Goals as goal
 pub loop-i-preserved : goal.loop-i-preserved
 loop-i-preserved c =
     let a = c.args in (
-      omega arith,
-      (
-        rw (c.loop-i.invariant.1.0, add-one c.loop-i.i) (paste-suc a.dst.now a.at a.src.now c.loop-i.i 0 (omega arith) (omega arith)),
-        simp length-set (omega arith),
-      ),
+      rw (c.loop-i.invariant.0, add-one c.loop-i.i) (paste-suc a.dst.now a.at a.src.now c.loop-i.i 0 (omega arith) (omega arith)),
+      simp length-set (omega arith),
     )
 
 pub returns-then-src-eq16 : goal.returns-then-src-eq16

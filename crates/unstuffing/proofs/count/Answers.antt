@@ -22,8 +22,8 @@ loop-i-preserved c =
     let rest = unstuff (i + width_of (get_or s i 0)) (drop (i + width_of (get_or s i 0)) s) in (
       omega (arith, c.select.ensures, width-most (get_or s i 0)),
       rw c.select.ensures
-          (sym (one_more n i c.in-Ok.field-0 rest)
-          ∙ ap (λ (t : Told ℕ). counted n (after i t rest)) c.in-Ok.ensures
+          (sym (one_more n i _ rest)
+          ∙ ap (λ (t : Told ℕ). counted n (after i t rest)) c.in_ok-step.ensures
           ∙ ap (counted n) (sym (unstuff-at s i c.loop-i-test.true))
           ∙ c.loop-i.invariant.1),
     )

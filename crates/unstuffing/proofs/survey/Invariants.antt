@@ -1,17 +1,14 @@
 -- The loop of `survey`: where no pair of neighbours so far is a fault, the whole is proper if the rest is.
--- Beside it stands the running count of FDs.
-use Rattle.std.proofs.Common.{◌≡◌, ◌+◌, ◌-◌, ◌%◌, ◌<◌, ◌≤◌, length, drop}
+-- Beside it stands the running count of FDs; the last byte, which has nothing behind it, was looked at before.
+use Rattle.std.proofs.Common.{◌≡◌, ◌+◌, ◌-◌, ◌%◌, ◌<◌, ◌≤◌, cond, eqb, false, length, drop}
 use Rattle.unstuffing.specs.Escapes.{Proper}
 use Rattle.unstuffing.specs.Private.{kept}
+use Rattle.unstuffing.proofs.Proper.{is_fault}
 use Rattle.unstuffing.proofs.survey.Given as goal
 
 abbrev pub invariant-loop-i : goal.invariant-loop-i
 invariant-loop-i l =
-    (1 ≤ l.i)
-    × (l.i - 1 ≤ length l.s - 1)
-    × ((l.count + kept l.s) % 65536 ≡ (l.i - 1 + kept (drop (l.i - 1) l.s)) % 65536)
-    × (l.faults ≡ 0 → Proper (drop (l.i - 1) l.s) → Proper l.s)
-    × (l.count < 65536)
-
-abbrev pub decreases-loop-i : goal.decreases-loop-i
-decreases-loop-i l = length l.s - l.i
+    (l.i - 1 ≤ length l.s - 1)
+    × (l.is_wrong ≡ false → (is_fault l.last 0 ≡ false) × (Proper (drop (l.i - 1) l.s) → Proper l.s))
+    × ((l.escapes + kept l.s) % 65536 ≡ (cond (eqb l.last 0xFD) 1 0 + (l.i - 1) + kept (drop (l.i - 1) l.s)) % 65536)
+    × (l.escapes < 65536)

@@ -7,11 +7,12 @@ use Rattle.unstuffing.proofs.Proper.{unstuff-proper, length-units, kept-most}
 use Rattle.unstuffing.proofs.unstuffed.Goals as goal
 
 pub overflow_sub-result : goal.overflow_sub-result
-overflow_sub-result c = omega (arith, c.survey-e.ensures.count, c.survey-e.type_inv, kept-most c.args.s.now)
+overflow_sub-result c = omega (arith, c.in-Some.ensures.1, c.from.ensures, kept-most c.args.s.now)
 
-pub returns-then-e-eq0 : goal.returns-then-e-eq0
-returns-then-e-eq0 c =
+pub returns-in-Some : goal.returns-in-Some
+returns-in-Some c =
     let s = c.args.s.now in
-    let p : Proper s = c.survey-e.ensures.faults c.if-e-eq0.true in
-    ap yes (omega (arith, c.survey-e.ensures.count, c.survey-e.type_inv, kept-most s, length-units 0 p))
+    let p : Proper s = c.in-Some.ensures.0 in
+    let e = c.from.ensures in
+    ap yes (omega (arith, c.in-Some.ensures.1, e, kept-most s, length-units 0 p))
     ∙ ap (λ (t : Told (List (ℕ × ℕ))). on_yes length t) (sym (unstuff-proper 0 p))

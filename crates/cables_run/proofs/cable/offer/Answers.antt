@@ -1,15 +1,16 @@
 -- A call takes no more than it is offered.
--- So what was taken stays within the piece.
-use Rattle.std.proofs.Common.{arith}
+use Rattle.std.proofs.Common.{rules}
+use Rattle.std.specs.declared.result.Result.TheVariants.{Ok}
 use Rattle.stream.proofs.Ends.{fed-within}
 use Rattle.cables_run.proofs.cable.offer.Goals as goal
 
-pub overflow_add-at : goal.overflow_add-at
-overflow_add-at c =
-    let w = fed-within c.feed-fed.result c.feed-fed.new.hold _ _ _ c.feed-fed.ensures in
-    omega (arith, w)
+pub slice_bounds-rest-count : goal.slice_bounds-rest-count
+slice_bounds-rest-count c =
+    let l = c.loop in
+    fed-within (Ok c.in-Ok.fed) c.feed.new.self c.feed.new.hold l.splitter l.hold l.rest.now c.in-Ok.ensures
 
-pub loop-turns-preserved : goal.loop-turns-preserved
-loop-turns-preserved c =
-    let w = fed-within c.feed-fed.result c.feed-fed.new.hold _ _ _ c.feed-fed.ensures in
-    (omega (arith, w), omega arith)
+pub slice_bounds-rest-start : goal.slice_bounds-rest-start
+slice_bounds-rest-start c =
+    let l = c.loop in
+    let w = fed-within (Ok c.in-Ok.fed) c.feed.new.self c.feed.new.hold l.splitter l.hold l.rest.now c.in-Ok.ensures in
+    search rules

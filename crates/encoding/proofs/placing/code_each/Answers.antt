@@ -13,10 +13,9 @@ loop-k-preserved c =
     let s = c.args.s.now in
     let k = c.loop-k.k in
     let i = c.loop-k.invariant in (
-      omega arith,
+      simp length-set i.0,
       simp length-set i.1,
-      simp length-set i.2,
-      front-more (λ j. last_of (get_or s j 0)) 0 c.loop-k.last k (omega arith) (c.select.ensures ∙ rw c.escape_code-code.ensures) i.3,
+      front-more (λ j. last_of (get_or s j 0)) 0 c.loop-k.last k (omega arith) (c.select.ensures ∙ rw c.escape_code-code.ensures) i.2,
       front-more (λ j. length (stuff_byte (get_or s j 0))) 0 c.loop-k.width k (omega arith)
-          (width_of (get_or s k 0) c.escape_code-code.result c.select-in-loop-k.result c.escape_code-code.ensures c.select-in-loop-k.ensures) i.4,
+          (width_of (get_or s k 0) c.escape_code-code.result c.select-in-loop-k.result c.escape_code-code.ensures c.select-in-loop-k.ensures) i.3,
     )

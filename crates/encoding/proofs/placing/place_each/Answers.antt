@@ -18,7 +18,7 @@ bounds-buf-o c =
     let i = c.loop-k.invariant in
     omega (
       arith,
-      fits c.args.s.now c.loop-k.k c.loop-k.o c.args.at _ c.loop-k-test.true i.1 c.requires.1,
+      fits c.args.s.now c.loop-k.k c.loop-k.o c.args.at _ c.loop-k-test.true i.0 c.requires.1,
       width (get_or c.args.s.now c.loop-k.k 0),
     )
 
@@ -32,7 +32,7 @@ bounds-buf-o-in-loop-k c =
     simp length-set
     (omega (
       arith,
-      fits c.args.s.now c.loop-k.k c.loop-k.o c.args.at _ c.loop-k-test.true i.1 c.requires.1,
+      fits c.args.s.now c.loop-k.k c.loop-k.o c.args.at _ c.loop-k-test.true i.0 c.requires.1,
       c.requires.2.widths c.loop-k.k c.loop-k-test.true,
       width (get_or c.args.s.now c.loop-k.k 0),
     ))
@@ -47,5 +47,5 @@ loop-k-preserved c =
     let span = c.requires.2.widths k c.loop-k-test.true in
     let stored = byte-stored b (get_or c.args.width.now k 0) (get_or c.args.last.now k 0) span (c.requires.2.lasts k c.loop-k-test.true) c.loop-k.buf o in
     let e = stored_on (stuff_byte b) (stuff (drop (k + 1) s)) c.loop-k.buf o (stuff-at s k c.loop-k-test.true)
-    (ap (λ (n : ℕ). o + n) span) stored i.1 i.2 i.3 in
-    (omega arith, e.0, e.1, e.2)
+    (ap (λ (n : ℕ). o + n) span) stored i.0 i.1 i.2 in
+    (e.0, e.1, e.2)

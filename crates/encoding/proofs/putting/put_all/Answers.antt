@@ -1,76 +1,76 @@
--- A turn of `put_all`: the plain blocks from i on, and the part behind them by its codes.
+-- A turn of `put_all`: the plain blocks in front, and the part behind them by its codes.
 -- There is room for the part, since there is room for all that is to come.
-use Rattle.std.proofs.Common.{◌≡◌, ℕ, ◌+◌, ◌-◌, ◌≤◌, List, length, take, drop, sym, ap, ◌∙◌, arith, length-append, length-drop, length-take-le}
+use Rattle.std.proofs.Common.{◌≡◌, ℕ, ◌+◌, ◌-◌, ◌≤◌, List, ◌++◌, length, take, drop, sym, ap, ◌∙◌, arith, length-append, length-drop, length-take-le, take-append-drop}
 use Rattle.std.proofs.Math.Seq.{take_all}
 use Rattle.std.proofs.lemmas.List.Edits.{sets}
 use Rattle.stuffing.specs.Stuff.{stuff}
-use Rattle.stuffing.proofs.Stuffing.{stuff-part}
+use Rattle.stuffing.proofs.Stuffing.{stuff-append, stuff-least}
 use Rattle.encoding.proofs.Stores.{stored_on}
 use Rattle.encoding.proofs.putting.put_all.Goals as goal
 
--- the loop's invariant, of any buffer and places
-abbrev Inv : List ℕ → List ℕ → ℕ → List ℕ → ℕ → ℕ → Type 0
-Inv s first at buf i o =
-    (i ≤ length s)
-    × (o + length (stuff (drop i s)) ≡ at + length (stuff s))
-    × (sets buf o (stuff (drop i s)) ≡ sets first at (stuff s))
+-- the loop's invariant, of any buffer and place, with rest to come
+abbrev Inv : List ℕ → List ℕ → ℕ → List ℕ → List ℕ → ℕ → Type 0
+Inv s first at buf rest o =
+    (o + length (stuff rest) ≡ at + length (stuff s))
+    × (sets buf o (stuff rest) ≡ sets first at (stuff s))
     × (length buf ≡ length first)
 
+-- the first n bytes, stuffed, and those behind them
+parts : (n : ℕ) (rest : List ℕ) → stuff rest ≡ stuff (take n rest) ++ stuff (drop n rest)
+parts n rest = ap stuff (sym (take-append-drop n rest)) ∙ stuff-append (take n rest) (drop n rest)
+
 -- the stuffed bytes of n more are stored
-turn : (s first buf buf' : List ℕ) (at i n o o' : ℕ) → i + n ≤ length s → Inv s first at buf i o
-    → o' ≡ o + length (stuff (take n (drop i s))) → buf' ≡ sets buf o (stuff (take n (drop i s))) → Inv s first at buf' (i + n) o'
-turn s first buf buf' at i n o o' h inv oe be =
-    let e = stored_on (stuff (take n (drop i s))) (stuff (drop (i + n) s)) buf o (stuff-part s i n) oe be inv.1 inv.2 inv.3 in
-    (h, e.0, e.1, e.2)
-
--- all from i on
-rest : (s : List ℕ) (i : ℕ) → take (length s - i) (drop i s) ≡ drop i s
-rest s i = take_all (length s - i) (drop i s) (omega (arith, length-drop i s))
-
--- n bytes from i on
-part-length : (s : List ℕ) (i n : ℕ) → i + n ≤ length s → length (take n (drop i s)) ≡ n
-part-length s i n h = length-take-le n (drop i s) (omega (arith, length-drop i s))
+turn : (s first buf buf' rest : List ℕ) (at n o o' : ℕ) → Inv s first at buf rest o
+    → o' ≡ o + length (stuff (take n rest)) → buf' ≡ sets buf o (stuff (take n rest)) → Inv s first at buf' (drop n rest) o'
+turn s first buf buf' rest at n o o' inv oe be =
+    stored_on (stuff (take n rest)) (stuff (drop n rest)) buf o (parts n rest) oe be inv.0 inv.1 inv.2
 
 -- after n plain bytes
-between : (s first buf buf' : List ℕ) (at i n o : ℕ) → Inv s first at buf i o
-    → n ≤ length (take (length s - i) (drop i s))
-    → stuff (take n (take (length s - i) (drop i s))) ≡ take n (take (length s - i) (drop i s))
-    → buf' ≡ sets buf o (take n (take (length s - i) (drop i s)))
-    → Inv s first at buf' (i + n) (o + n)
-between s first buf buf' at i n o inv few plain stored =
-    let f : n ≤ length (drop i s) = rw (rest s i) at few in
-    let p : stuff (take n (drop i s)) ≡ take n (drop i s) = rw (rest s i) at plain in
-    let b : buf' ≡ sets buf o (take n (drop i s)) = rw (rest s i) at stored in
-    let passed : i + n ≤ length s = omega (arith, length-drop i s, inv.0) in
-    let len : n ≡ length (stuff (take n (drop i s))) = sym (ap length p ∙ part-length s i n passed) in
-    turn s first buf buf' at i n o (o + n) passed inv (ap (λ (k : ℕ). o + k) len) (b ∙ ap (sets buf o) (sym p))
+between : (s first buf buf' rest : List ℕ) (at n o : ℕ) → Inv s first at buf rest o
+    → n ≤ length rest → stuff (take n rest) ≡ take n rest → buf' ≡ sets buf o (take n rest) → Inv s first at buf' (drop n rest) (o + n)
+between s first buf buf' rest at n o inv few plain stored =
+    let len : n ≡ length (stuff (take n rest)) = sym (ap length plain ∙ length-take-le n rest few) in
+    turn s first buf buf' rest at n o (o + n) inv (ap (λ (k : ℕ). o + k) len) (stored ∙ ap (sets buf o) (sym plain))
+
+-- all from n on
+behind : (n : ℕ) (rest : List ℕ) → take (length rest - n) (drop n rest) ≡ drop n rest
+behind n rest = take_all (length rest - n) (drop n rest) (omega (arith, length-drop n rest))
+
+pub overflow_add-o : goal.overflow_add-o
+overflow_add-o c =
+    let i = c.loop-rest.invariant in
+    omega (arith, c.put_blocks-plain.ensures.0, stuff-least c.loop-rest.rest.now, i.0, i.2, c.requires)
 
 pub put_part-o-requires : goal.put_part-o-requires
 put_part-o-requires c =
-    let s = c.args.s.now in
+    let rest = c.loop-rest.rest.now in
     let n = c.put_blocks-plain.result in
     let e = c.put_blocks-plain.ensures in
-    let p = c.part_end-to.ensures in
-    let from = c.loop-i.i + n in
-    let m = c.part_end-to.result - from in
-    let b = between s c.args.buf.now c.loop-i.buf c.put_blocks-plain.new.buf c.args.at c.loop-i.i n c.loop-i.o c.loop-i.invariant e.0 e.1 e.2 in
-    let to : from + m ≤ length s = omega (arith, p.0, p.1) in
-    let x = take m (drop from s) in (
-      omega (arith, part-length s from m to, p.2),
-      omega (arith, ap length (stuff-part s from m), length-append (stuff x) (stuff (drop (from + m) s)), b.1, b.3, c.requires),
+    let k = c.part_len.result in
+    let b = between c.args.s.now c.args.buf.now c.loop-rest.buf c.put_blocks-plain.new.buf rest c.args.at n c.loop-rest.o c.loop-rest.invariant e.0 e.1 e.2 in
+    let is : c.split_at.result.0.now ≡ take k (drop n rest) = c.split_at.ensures.front ∙ ap (take k) (behind n rest) in (
+      omega (arith, c.split_at.ensures.front_len, c.part_len.ensures.1),
+      omega (
+        arith,
+        ap (λ (l : List ℕ). length (stuff l)) is,
+        ap length (parts k (drop n rest)),
+        length-append (stuff (take k (drop n rest))) (stuff (drop k (drop n rest))),
+        b.0,
+        b.2,
+        c.requires,
+      ),
     )
 
-pub loop-i-preserved : goal.loop-i-preserved
-loop-i-preserved c =
-    let s = c.args.s.now in
+pub loop-rest-preserved : goal.loop-rest-preserved
+loop-rest-preserved c =
+    let rest = c.loop-rest.rest.now in
     let n = c.put_blocks-plain.result in
     let e = c.put_blocks-plain.ensures in
-    let p = c.part_end-to.ensures in
-    let from = c.loop-i.i + n in
-    let m = c.part_end-to.result - from in
-    let b = between s c.args.buf.now c.loop-i.buf c.put_blocks-plain.new.buf c.args.at c.loop-i.i n c.loop-i.o c.loop-i.invariant e.0 e.1 e.2 in
-    let to : from + m ≡ c.part_end-to.result = omega (arith, p.0) in
-    let few : from + m ≤ length s = omega (arith, p.0, p.1) in
-    rw to
-    at (turn s c.args.buf.now c.put_blocks-plain.new.buf c.put_part-o.new.buf c.args.at from m (c.loop-i.o + n) c.put_part-o.result
-    few b c.put_part-o.ensures.0 c.put_part-o.ensures.1)
+    let k = c.part_len.result in
+    let b = between c.args.s.now c.args.buf.now c.loop-rest.buf c.put_blocks-plain.new.buf rest c.args.at n c.loop-rest.o c.loop-rest.invariant e.0 e.1 e.2 in
+    let is : c.split_at.result.0.now ≡ take k (drop n rest) = c.split_at.ensures.front ∙ ap (take k) (behind n rest) in
+    let on : c.split_at.result.1.now ≡ drop k (drop n rest) = c.split_at.ensures.back ∙ ap (drop k) (behind n rest) in
+    let o = c.put_part-o.ensures.0 ∙ ap (λ (l : List ℕ). c.loop-rest.o + n + length (stuff l)) is in
+    let buf = c.put_part-o.ensures.1 ∙ ap (λ (l : List ℕ). sets c.put_blocks-plain.new.buf (c.loop-rest.o + n) (stuff l)) is in
+    rw on
+    (turn c.args.s.now c.args.buf.now c.put_blocks-plain.new.buf c.put_part-o.new.buf (drop n rest) c.args.at k (c.loop-rest.o + n) c.put_part-o.result b o buf)

@@ -10,11 +10,7 @@ turn : (a : List ℕ) (k : ℕ) → k < length a → stuff (take k a) ≡ take k
 turn a k h e c =
     rw (add-one, take-suc a k 0 h, stuff-append (take k a) (get_or a k 0 ∷ []), e, plain (get_or a k 0) c)
 
-pub loop-k-preserved : goal.loop-k-preserved
-loop-k-preserved c = (
-  omega arith,
-  c.loop-k.invariant.1,
-  λ q.
-      turn c.args.a c.loop-k.k (omega arith) (c.loop-k.invariant.2 (omega (arith, q, c.lesser-least.ensures.0)))
-      (c.rank.ensures (omega (arith, q, c.lesser-least.ensures.1))),
-)
+pub loop-b-preserved : goal.loop-b-preserved
+loop-b-preserved c q =
+    turn c.args.block.now c.loop-b.b-index (omega (arith, c.told-block)) (c.loop-b.invariant (omega (arith, q, c.min-least.ensures)))
+    (c.rank.ensures (omega (arith, q, c.min-least.ensures)))

@@ -16,24 +16,23 @@ room_here s i o n h e = omega (arith, ap slots (next s i h), slots-step (get_or 
 
 pub bounds-buf-o : goal.bounds-buf-o
 bounds-buf-o c =
-    omega (arith, room_here c.args.s.now c.loop-i.i c.loop-i.o (length c.args.buf.now) c.loop-i-test.true c.loop-i.invariant.1, c.loop-i.invariant.4)
+    omega (arith, room_here c.args.s.now c.loop-b.b-index c.loop-b.o (length c.args.buf.now) c.loop-b-test.true c.loop-b.invariant.0, c.loop-b.invariant.3)
 
-pub loop-i-preserved : goal.loop-i-preserved
-loop-i-preserved c =
+pub loop-b-preserved : goal.loop-b-preserved
+loop-b-preserved c =
     let s = c.args.s.now in
-    let i = c.loop-i.i in
-    let o = c.loop-i.o in
+    let i = c.loop-b.b-index in
+    let o = c.loop-b.o in
     let b = get_or s i 0 in
-    let e = next s i c.loop-i-test.true in
-    let w : c.select-in-loop-i.result ≡ cond (eqb b 0xFD) 0 1 = c.select-in-loop-i.ensures in
-    let is : c.select.result ≡ stands_for c.loop-i.p b = c.select.ensures ∙ rw c.unescape.ensures in
-    let here : o < length c.loop-i.buf =
-    omega (arith, room_here s i o (length c.args.buf.now) c.loop-i-test.true c.loop-i.invariant.1, c.loop-i.invariant.4) in (
-      omega arith,
-      omega (arith, w, ap slots e, slots-step b (drop (i + 1) s), c.loop-i.invariant.1),
-      omega (arith, w, ap kept e, c.loop-i.invariant.2),
+    let e = next s i c.loop-b-test.true in
+    let w : c.select-in-loop-b.result ≡ cond (eqb b 0xFD) 0 1 = c.select-in-loop-b.ensures in
+    let is : c.select.result ≡ stands_for c.loop-b.p b = c.select.ensures ∙ rw c.unescape.ensures in
+    let here : o < length c.loop-b.buf =
+    omega (arith, room_here s i o (length c.args.buf.now) c.loop-b-test.true c.loop-b.invariant.0, c.loop-b.invariant.3) in (
+      omega (arith, w, ap slots e, slots-step b (drop (i + 1) s), c.loop-b.invariant.0),
+      omega (arith, w, ap kept e, c.loop-b.invariant.1),
       rw w
-          (walk-on c.loop-i.buf (drop (i + 1) s) c.loop-i.p b o c.select.result is here
-          ∙ ap (λ (r : List ℕ). take o c.loop-i.buf ++ raw c.loop-i.p r) (sym e)) ∙ c.loop-i.invariant.3,
-      simp length-set c.loop-i.invariant.4,
+          (walk-on c.loop-b.buf (drop (i + 1) s) c.loop-b.p b o c.select.result is here
+          ∙ ap (λ (r : List ℕ). take o c.loop-b.buf ++ raw c.loop-b.p r) (sym e)) ∙ c.loop-b.invariant.2,
+      simp length-set c.loop-b.invariant.3,
     )

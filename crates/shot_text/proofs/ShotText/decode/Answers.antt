@@ -22,11 +22,11 @@ module _ (s : List ℕ) (p : TextPlace) (e : p ≡ place_of s) where
       let n : p.start + p.len - p.start ≡ length (text_of s) = omega (arith, long) in
       ap (λ (k : ℕ). take k (drop p.start s)) n ∙ ap (λ (k : ℕ). take (length (text_of s)) (drop k s)) starts ∙ lies s
 
-pub overflow_add-end : goal.overflow_add-end
-overflow_add-end c = omega (arith, fits c.args.payload.now c.place-place.result c.place-place.ensures)
+pub overflow_add-result : goal.overflow_add-result
+overflow_add-result c = omega (arith, fits c.args.payload.now c.place-start.result c.place-start.ensures)
 
 pub slice_bounds-result-end : goal.slice_bounds-result-end
-slice_bounds-result-end c = fits c.args.payload.now c.place-place.result c.place-place.ensures
+slice_bounds-result-end c = fits c.args.payload.now c.place-start.result c.place-start.ensures
 
 pub returns-clause-result_value : goal.returns-clause-result_value
-returns-clause-result_value c = part c.args.payload.now c.place-place.result c.place-place.ensures
+returns-clause-result_value c = part c.args.payload.now c.place-start.result c.place-start.ensures

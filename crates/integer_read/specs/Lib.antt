@@ -1,0 +1,3 @@
+-- The public contracts cite `integer` alone.
+-- Private is for the kinds and widths inside.
+pub mod Private

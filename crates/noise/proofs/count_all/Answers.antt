@@ -1,0 +1,12 @@
+-- Before the first piece: a new splitter, and a hold buffer of zeros.
+use Rattle.std.proofs.Common.{replicate, sym, subst}
+use Rattle.splitter.specs.declared.FrameSplitter.{FrameSplitter}
+use Rattle.line_noise.specs.Piece.{between}
+use Rattle.line_noise.specs.Program.{Reached}
+use Rattle.line_noise.proofs.Reached.{starts}
+use Rattle.noise.proofs.count_all.Goals as goal
+
+pub read_all-requires-clause-between : goal.read_all-requires-clause-between
+read_all-requires-clause-between c =
+    let hold = replicate 2048 0 in
+    subst (λ (s : FrameSplitter). Reached hold (between s hold)) (sym c.new.ensures) (starts hold)

@@ -1,0 +1,35 @@
+-- `read` meets its contract: each call answers a field of the table.
+-- A signed number that is read is the number its bits hold.
+use mathlib.Core.List.{[], ◌∷◌}
+use mir.Syntax.{w32}
+use Rattle.layout.proofs.Held.{held}
+use Rattle.tracking.specs.Table.{tracking_of}
+use Rattle.tracking.proofs.TrackingStatusRecord.read.Goals as goal
+
+pub returns : goal.returns
+unfolding tracking_of
+returns c =
+    let m0 = held w32 c.int24_at-2.ensures c.int24_at-2.type_inv in
+    let m1 = held w32 c.int24_at-3.ensures c.int24_at-3.type_inv in
+    let m2 = held w32 c.int24_at-4.ensures c.int24_at-4.type_inv in
+    λ i.
+    record {
+      state = c.byte_at.ensures i;
+      flags = c.byte_at-2.ensures i;
+      pre_trig_buf_start = c.uint24_at.ensures i;
+      club_impact_idx = c.uint24_at-2.ensures i;
+      trigger_idx = c.uint24_at-3.ensures i;
+      radar_cal1 = c.uint24_at-4.ensures i;
+      radar_cal2 = c.uint24_at-5.ensures i;
+      radar_cal_avr = c.uint16_at.ensures i;
+      processing_iteration = c.byte_at-3.ensures i;
+      result_quality = c.byte_at-4.ensures i;
+      detection_subtype = c.byte_at-5.ensures i;
+      prc_tracking_count = c.byte_at-6.ensures i;
+      radar_measurement = c.uint16_at-2.ensures i;
+      trigger_flags = c.byte_at-7.ensures i;
+      event_counter = c.uint16_at-3.ensures i;
+      radar_baseline = held w32 c.int24_at.ensures c.int24_at.type_inv i;
+      track_measure = m0 i ∷ m1 i ∷ m2 i ∷ [];
+      track_measure4 = c.uint16_at-4.ensures i;
+    }
