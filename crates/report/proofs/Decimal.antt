@@ -86,6 +86,9 @@ as_written =
     let e = ih (omega arith) in
     decimal_step n h f ∙ ap (λ (l : List ℕ). l ++ ((0x30 + n % 10) ∷ [])) e ∙ sym (decimal-large n h))
 
+pub digits_20 : (n : ℕ) → n < 2 ^ 64 → length (decimal n) ≤ 20
+digits_20 n h = omega (arith, ap length (as_written n h), decimal-most 19 n (omega arith))
+
 -- ---- it decides the number, and has no spare zero
 
 -- the number that digits stand for, behind those that stand for v

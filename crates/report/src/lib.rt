@@ -13,7 +13,7 @@ use crate::words::{name, said};
 use error::WireError;
 use frame::RawFrame;
 
-// A frame's line: `N LEN OK DEST SRC TYPE P`, or `N LEN NO` with the refusal's number and values.
+// A frame's line: `N LEN OK DEST SRC TYPE P`, or `N LEN NO` with the refusal's number and values. Each line is written from its last part on.
 #[tactic(auto, unfolding(crate::specs::Line::frame_text))]
 pub fn frame_line(
     number: u64,
@@ -24,9 +24,9 @@ pub fn frame_line(
     ensures { Lined (frame_text number len (told opened)) out.old (told result) out.new }
 {
     let mut line = Line::new();
-    line.decimal(number);
-    line.number(len as u64);
     said(&mut line, opened);
+    line.number(len as u64);
+    line.decimal(number);
     line.put(out)
 }
 
@@ -36,8 +36,8 @@ pub fn long_line(number: u64, out: &mut [u8]) -> Result<usize, WireError>
     ensures { Lined (long_text number) out.old (told result) out.new }
 {
     let mut line = Line::new();
-    line.decimal(number);
     line.text(b" - LONG");
+    line.decimal(number);
     line.put(out)
 }
 
@@ -47,9 +47,9 @@ pub fn end_line(count: usize, skipping: bool, out: &mut [u8]) -> Result<usize, W
     ensures { Lined (end_text count skipping) out.old (told result) out.new }
 {
     let mut line = Line::new();
-    line.text(b"end");
-    line.number(count as u64);
     line.number(u64::from(skipping));
+    line.number(count as u64);
+    line.text(b"end");
     line.put(out)
 }
 
@@ -69,7 +69,7 @@ pub fn count_line(which: Count, n: u64, out: &mut [u8]) -> Result<usize, WireErr
     ensures { Lined (count_text which n) out.old (told result) out.new }
 {
     let mut line = Line::new();
-    line.text(name(which));
     line.number(n);
+    line.text(name(which));
     line.put(out)
 }

@@ -1,5 +1,5 @@
 // The words that lines share: what opening a frame said, and a count's name.
-// `OK` with a frame's fields, or `NO` with a refusal's number and values, a space before each word.
+// `OK` with a frame's fields, or `NO` with a refusal's number and values, a space before each word; a line is written from its end.
 ghost use Rattle.std.specs.Prelude.{◌≡◌, ◌+◌, ◌≤◌, ◌++◌, length};
 ghost use Rattle.error.specs.Refusal.{yes, refused};
 ghost use Rattle.error.specs.Result.{told};
@@ -12,8 +12,8 @@ use frame::RawFrame;
 
 // What opening a frame said.
 pub(crate) fn said(line: &mut Line, opened: Result<RawFrame, WireError>)
-    requires { length line.old + 70 ≤ 128 }
-    ensures bytes { line.new ≡ line.old ++ spaced (result_words (told opened)) }
+    requires { length line.old + 84 ≤ 128 }
+    ensures bytes { line.new ≡ spaced (result_words (told opened)) ++ line.old }
     ensures few { length line.new ≤ length line.old + 70 }
 {
     match opened {
@@ -25,27 +25,27 @@ pub(crate) fn said(line: &mut Line, opened: Result<RawFrame, WireError>)
 // DEST, SRC, TYPE and the payload's length.
 fn fields(line: &mut Line, frame: RawFrame)
     requires { length line.old + 33 ≤ 128 }
-    ensures bytes { line.new ≡ line.old ++ spaced (result_words (yes frame)) }
+    ensures bytes { line.new ≡ spaced (result_words (yes frame)) ++ line.old }
     ensures few { length line.new ≤ length line.old + 33 }
 {
-    line.text(b" OK");
-    line.byte(frame.dest.as_byte());
-    line.byte(frame.src.as_byte());
-    line.byte(frame.type_id);
     line.number(frame.len as u64);
+    line.byte(frame.type_id);
+    line.byte(frame.src.as_byte());
+    line.byte(frame.dest.as_byte());
+    line.text(b" OK");
 }
 
 // The refusal's number, and its values in order.
 fn refusal(line: &mut Line, e: WireError)
-    requires { length line.old + 70 ≤ 128 }
-    ensures bytes { line.new ≡ line.old ++ spaced (result_words (refused e)) }
+    requires { length line.old + 84 ≤ 128 }
+    ensures bytes { line.new ≡ spaced (result_words (refused e)) ++ line.old }
     ensures few { length line.new ≤ length line.old + 70 }
 {
-    line.text(b" NO");
-    line.number(e.number() as u64);
-    for i in 0..e.count() {
+    for i in (0..e.count()).rev() {
         line.number(e.value(i) as u64);
     }
+    line.number(e.number() as u64);
+    line.text(b" NO");
 }
 
 // A count's name.

@@ -1,15 +1,7 @@
--- One value more is put.
-use Rattle.std.proofs.Common.{◌<◌, length, add-one, append_assoc, arith}
-use Rattle.error.specs.Refusal.{values_of}
-use Rattle.report.proofs.Values.{one_more}
+-- Behind the number stand three values at most.
+use Rattle.std.proofs.Common.{arith}
+use Rattle.report.proofs.Values.{at-most-3}
 use Rattle.report.proofs.words.refusal.Goals as goal
 
-pub loop-i-preserved : goal.loop-i-preserved
-loop-i-preserved c =
-    let vs = values_of c.args.e in
-    let l = c.loop-i in
-    let h : l.i < length vs = omega (arith, c.count-i-end.ensures) in
-    record {
-      bytes = rw (c.number-in-loop-i.ensures.bytes, l.invariant.bytes, append_assoc, c.value.ensures, one_more vs l.i h, ← add-one l.i);
-      few = omega (arith, l.invariant.few, c.number-in-loop-i.ensures.few);
-    }
+pub number-requires-3 : goal.number-requires-3
+number-requires-3 c = omega (arith, at-most-3 c.args.e, c.loop-i.invariant.few)
