@@ -6,7 +6,7 @@ ghost use Rattle.std.specs.Prelude.{◌≡◌};
 ghost use Rattle.capture.specs.Capture.{Between};
 
 use error::WireError;
-use program::Sink;
+use program::{Came, Sink};
 use session::Session;
 
 // The longest piece that is read at once.
@@ -29,22 +29,33 @@ pub fn print_all(rt: &HostRuntime)
     }
 }
 
-// The session, its hold buffer, and room for the lines of a piece.
+// The session, its hold buffer, and room for the lines of a piece. The session is one that calls of `piece` lead to, each with room
+// for its lines.
 #[derive(Drop)]
 struct Capture {
     session: Session,
     hold: [u8; 2048],
     lines: [u8; 1048576],
+    ghost between: { ∥ Between session hold ∥₁ },
 }
 
-// The lines of each piece are printed. Between two pieces the session is one that calls of `piece` lead to, each with room for its lines.
+// The lines of each piece are printed.
 impl Sink<PIECE> for Capture {
-    ghost stands = { Between };
+    ghost use Rattle.std.proofs.Common.{ltb→lt};
 
-    fn take(&mut self, rt: &HostRuntime, piece: &[u8]) -> bool {
+    ghost stands = { λ c. ∥ Between c.session c.hold ∥₁ };
+
+    fn take(&mut self, rt: &HostRuntime, room: &[u8; PIECE], came: Came<PIECE>) -> bool
+        ensures { ∥ Between self.new.session self.new.hold ∥₁ }
+    {
+        let piece = &room[..came.len];
         let reply = self.session.piece(&mut self.hold, piece, &mut self.lines);
         print(rt, reply, &self.lines)
     }
+
+    ghost always = { λ c. c.between };
+
+    ghost small = { ltb→lt _ _ tt };
 }
 
 fn print(rt: &HostRuntime, reply: Result<usize, WireError>, lines: &[u8]) -> bool {

@@ -16,7 +16,7 @@ use crate::case::{Case, Fault};
 use crate::operation::Operation;
 use crate::say::{Line, Refusal};
 use crate::text::Text;
-use program::Sink;
+use program::{Came, Sink};
 
 fn main(rt: HostRuntime) {
     if program::alone(
@@ -47,11 +47,20 @@ struct Replay {
 }
 
 impl Sink<PIECE> for Replay {
+    ghost use Rattle.std.proofs.Common.{ltb→lt};
+
     ghost stands = { λ _. ⊤ };
 
-    fn take(&mut self, rt: &HostRuntime, piece: &[u8]) -> bool {
+    fn take(&mut self, rt: &HostRuntime, room: &[u8; PIECE], came: Came<PIECE>) -> bool
+        ensures { ⊤ }
+    {
+        let piece = &room[..came.len];
         piece.iter().all(|&byte| self.next(rt, byte))
     }
+
+    ghost always = { λ _. tt };
+
+    ghost small = { ltb→lt _ _ tt };
 }
 
 impl Replay {

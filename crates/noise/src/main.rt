@@ -5,9 +5,12 @@
 ghost use Rattle.noise.specs.Line.{Between};
 
 use error::WireError;
-use program::Sink;
+use program::{Came, Sink};
 use report::Count;
 use splitter::{Counts, FrameSplitter};
+
+// The longest piece that is read at once.
+const PIECE: usize = 8192;
 
 fn main(rt: HostRuntime) {
     if program::alone(
@@ -30,21 +33,31 @@ fn count_all(rt: &HostRuntime) {
     }
 }
 
-// The splitter, and its hold buffer.
+// The splitter, and its hold buffer. The splitter is one that calls of `take_all` lead to.
 #[derive(Drop)]
 struct Line {
     splitter: FrameSplitter,
     hold: [u8; 2048],
+    ghost between: { ∥ Between splitter hold ∥₁ },
 }
 
-// Each piece is counted. Between two pieces the splitter is one that calls of `take_all` lead to.
-impl Sink<8192> for Line {
-    ghost stands = { Between };
+// Each piece is counted.
+impl Sink<PIECE> for Line {
+    ghost use Rattle.std.proofs.Common.{ltb→lt};
 
-    fn take(&mut self, rt: &HostRuntime, piece: &[u8]) -> bool {
+    ghost stands = { λ l. ∥ Between l.splitter l.hold ∥₁ };
+
+    fn take(&mut self, rt: &HostRuntime, room: &[u8; PIECE], came: Came<PIECE>) -> bool
+        ensures { ∥ Between self.new.splitter self.new.hold ∥₁ }
+    {
+        let piece = &room[..came.len];
         let reply = line_noise::take_all(&mut self.splitter, &mut self.hold, piece);
         is_taken(rt, reply)
     }
+
+    ghost always = { λ l. l.between };
+
+    ghost small = { ltb→lt _ _ tt };
 }
 
 // Whether a piece was taken. A refusal is told: more bytes came than can be counted, for the state is one that calls lead to.

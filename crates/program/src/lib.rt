@@ -31,32 +31,41 @@ pub fn alone(rt: &HostRuntime, args: usize, usage: &[u8]) -> bool
     alone
 }
 
-// What is done with the pieces of the input, each of at most N bytes, one after the other. Here and below a plain yes or no is
-// answered, for what failed has been told.
+// How many bytes of a room for N a read brought.
+#[derive(Clone, Copy)]
+pub struct Came<const N: usize> {
+    pub len: usize,
+    ghost fits: { len ≤ N },
+}
+
+// What is done with the pieces of the input, one after the other. Here and below a plain yes or no is answered, for what failed has
+// been told.
 pub trait Sink<const N: usize> {
     // What is so between two pieces.
     ghost stands: { Self → Type 0 };
 
-    // One piece. Answers whether the next one is to be read.
-    fn take(&mut self, rt: &HostRuntime, piece: &[u8]) -> bool
-        requires between { stands self.old }
-        requires room { length piece.now ≤ N }
+    // One piece: the first bytes of the room, as many as came. Answers whether the next one is to be read.
+    fn take(&mut self, rt: &HostRuntime, room: &[u8; N], came: Came<N>) -> bool
         ensures { stands self.new };
+
+    // It is so of every value of the type.
+    ghost always: { (s : Self) → stands s };
+
+    // The room can lie in memory.
+    ghost small: { N < 2 ^ 63 };
 }
 
 // Standard input, piece by piece, to its end, or to where a read fails or the sink wants no more. Answers whether that was the end.
 // A proved loop has to end, and nothing says that the input does: no run reads so many pieces as are counted here.
 pub fn read_all<const N: usize, S: Sink<N>>(rt: &HostRuntime, name: &[u8], sink: &mut S) -> bool
-    requires between { S.stands sink.old }
-    requires size { N < 2 ^ 63 }
     ensures { S.stands sink.new }
 {
-    let mut piece = [0u8; N];
+    let mut room = [0u8; N];
     for _ in 0..u64::MAX {
-        match read(rt, name, &mut piece) {
+        match read(rt, name, &mut room) {
             Some(0) => return true,
-            Some(n) => {
-                if !sink.take(rt, &piece[..n]) {
+            Some(len) => {
+                if !sink.take(rt, &room, Came { len }) {
                     return false;
                 }
             }

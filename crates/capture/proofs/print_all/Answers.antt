@@ -6,7 +6,7 @@ use Rattle.session.specs.Program.{Reached}
 use Rattle.session.proofs.Reached.{starts}
 use Rattle.capture.proofs.print_all.Goals as goal
 
-pub read_all-requires-clause-between : goal.read_all-requires-clause-between
-read_all-requires-clause-between c =
+pub invariant_of-capture : goal.invariant_of-capture
+invariant_of-capture c =
     let hold = replicate 2048 0 in
-    subst (λ (s : Session). Reached hold (stage s hold)) (sym c.new.ensures) (starts hold)
+    record { between = ∣ subst (λ (s : Session). Reached hold (stage s hold)) (sym c.new.ensures) (starts hold) ∣₁ }

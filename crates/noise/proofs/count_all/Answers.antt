@@ -6,7 +6,7 @@ use Rattle.line_noise.specs.Program.{Reached}
 use Rattle.line_noise.proofs.Reached.{starts}
 use Rattle.noise.proofs.count_all.Goals as goal
 
-pub read_all-requires-clause-between : goal.read_all-requires-clause-between
-read_all-requires-clause-between c =
+pub invariant_of-line : goal.invariant_of-line
+invariant_of-line c =
     let hold = replicate 2048 0 in
-    subst (λ (s : FrameSplitter). Reached hold (between s hold)) (sym c.new.ensures) (starts hold)
+    record { between = ∣ subst (λ (s : FrameSplitter). Reached hold (between s hold)) (sym c.new.ensures) (starts hold) ∣₁ }
