@@ -96,6 +96,7 @@ impl FlightResult {
         self.is_failed(LeagueRule::Rule1)
     }
 
+    #[inline(always)]
     pub fn decode(payload: &[u8]) -> Decoded<FlightResult>
         ensures { told_decoded result ≡ decode_rule Message.FlightResult flight_result payload.now }
     {
@@ -116,6 +117,7 @@ impl Record for FlightResult {
 
     const LEAST: usize = D4.least;
 
+    #[inline(always)]
     fn read(payload: &[u8]) -> FlightResult {
         let p = Payload {
             message: Message::FlightResult,

@@ -69,6 +69,7 @@ impl FlightResultV1 {
         self.is_failed(LeagueRule::Rule1)
     }
 
+    #[inline(always)]
     pub fn decode(payload: &[u8]) -> Decoded<FlightResultV1>
         ensures { told_decoded result ≡ decode_rule Message.FlightResultV1 flight_result_v1 payload.now }
     {
@@ -89,6 +90,7 @@ impl Record for FlightResultV1 {
 
     const LEAST: usize = E8.least;
 
+    #[inline(always)]
     fn read(payload: &[u8]) -> FlightResultV1 {
         let p = Payload {
             message: Message::FlightResultV1,

@@ -2,7 +2,7 @@
 // A scaled read divides once.
 #![tactic(auto)]
 
-ghost use Rattle.std.specs.Prelude.{◌≡◌, ◌≤◌, ℕ, List, length};
+ghost use Rattle.std.specs.Prelude.{◌≡◌, ℕ, List};
 ghost use Rattle.error.specs.Result.{told};
 ghost use Rattle.integer.specs.Fields.{int_at, scaled_by};
 ghost use Rattle.layout.specs.Layout.{answered, record_of};
@@ -33,8 +33,8 @@ pub trait Record: Default {
     // how many bytes the record is read from
     const LEAST: usize;
 
+    // what the bytes fill, of a shorter payload too
     fn read(payload: &[u8]) -> Self
-        requires { LEAST ≤ length payload.now }
         ensures { result ≡ filled payload.now };
 
     // the default record is the one beside a refusal
@@ -42,6 +42,8 @@ pub trait Record: Default {
 }
 
 // The reply and the record of a payload, for each kind of record.
+// Always inlined: a caller that only tells the refusal then makes no record beside it.
+#[inline(always)]
 pub fn decode<R: Record>(payload: &[u8]) -> Decoded<R>
     ensures result_value { told result.result ≡ answered R.KIND R.LEAST payload.now }
     ensures record_value { result.«record» ≡ record_of R.LEAST R.filled R.nothing payload.now }

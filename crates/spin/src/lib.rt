@@ -2,7 +2,7 @@
 // Every field is the table's in specs/; beside a refusal every number of the record is zero.
 #![tactic(auto)]
 
-ghost use Rattle.std.specs.Prelude.{◌≡◌, ◌+◌, ◌*◌, ◌≤◌, length, take};
+ghost use Rattle.std.specs.Prelude.{◌≡◌, ◌+◌, ◌*◌, take};
 ghost use Rattle.error.specs.Result.{told};
 ghost use Rattle.layout.specs.Layout.{answered, source_of, fields_of, zeros, row};
 ghost use Rattle.spin.specs.Tables.{element_of, spin_of};
@@ -85,35 +85,44 @@ impl Record for SpinResult {
     const LEAST: usize = 138;
 
     fn read(payload: &[u8]) -> SpinResult {
-        let d = &payload[..138];
-        SpinResult {
-            version: integer::byte_at(d, 0),
-            antenna_data: read_antennas(d),
-            pm_spin_raw: integer::int16_at(d, 106),
-            pm_spin_final: integer::int16_at(d, 108),
-            pm_spin_confidence: integer::int16_at(d, 110),
-            lift_spin: integer::int16_at(d, 112),
-            spin_validate_expected: integer::int16_at(d, 114),
-            spin_validate_low: integer::int16_at(d, 116),
-            spin_validate_high: integer::int16_at(d, 118),
-            spin_validate_scaling: integer::int16_at(d, 120),
-            spin_method: integer::byte_at(d, 122),
-            spin_flags: integer::int24_at(d, 123),
-            launch_spin: integer::int16_at(d, 126),
-            am_spin: integer::int16_at(d, 128),
-            pm_spin: integer::int16_at(d, 130),
-            spin_axis: layout::int16_scaled_at(d, 132, 10.0),
-            aod_spin: integer::int16_at(d, 134),
-            pll_spin: integer::int16_at(d, 136),
+        if payload.len() < 138 {
+            return fields(payload);
         }
+        fields(&payload[..138])
     }
 
     ghost default_is_nothing = { spin-zeros };
 }
 
+// Inlined into `read`: of the part of constant length no field is tested when the code runs.
+#[inline(always)]
+fn fields(d: &[u8]) -> SpinResult
+    ensures { result ≡ spin_of (fields_of d.now) }
+{
+    SpinResult {
+        version: integer::byte_at(d, 0),
+        antenna_data: read_antennas(d),
+        pm_spin_raw: integer::int16_at(d, 106),
+        pm_spin_final: integer::int16_at(d, 108),
+        pm_spin_confidence: integer::int16_at(d, 110),
+        lift_spin: integer::int16_at(d, 112),
+        spin_validate_expected: integer::int16_at(d, 114),
+        spin_validate_low: integer::int16_at(d, 116),
+        spin_validate_high: integer::int16_at(d, 118),
+        spin_validate_scaling: integer::int16_at(d, 120),
+        spin_method: integer::byte_at(d, 122),
+        spin_flags: integer::int24_at(d, 123),
+        launch_spin: integer::int16_at(d, 126),
+        am_spin: integer::int16_at(d, 128),
+        pm_spin: integer::int16_at(d, 130),
+        spin_axis: layout::int16_scaled_at(d, 132, 10.0),
+        aod_spin: integer::int16_at(d, 134),
+        pll_spin: integer::int16_at(d, 136),
+    }
+}
+
 // The 15 antenna elements in a row, 7 bytes each from place 1 on. Written out: a loop is twice as slow.
 fn read_antennas(d: &[u8]) -> [AntennaElement; 15]
-    requires { 106 ≤ length d.now }
     ensures { result ≡ row 15 (λ n. element_of (fields_of d.now) (1 + n * 7)) }
 {
     [
@@ -136,10 +145,9 @@ fn read_antennas(d: &[u8]) -> [AntennaElement; 15]
 }
 
 fn read_element(d: &[u8], base: usize) -> AntennaElement
-    requires { base + 7 ≤ length d.now }
     ensures { result ≡ element_of (fields_of d.now) base }
 {
-    let e = &d[base..base + 7];
+    let e = &d[d.len().min(base)..];
     AntennaElement {
         spin_rpm: integer::int16_at(e, 0),
         peak: layout::int24_scaled_at(e, 2, 1000.0),

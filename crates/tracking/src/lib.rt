@@ -2,7 +2,7 @@
 // Every field is the table's in specs/; beside a refusal every number of the record is zero.
 #![tactic(auto)]
 
-ghost use Rattle.std.specs.Prelude.{◌≡◌, ◌≤◌, length, take};
+ghost use Rattle.std.specs.Prelude.{◌≡◌, take};
 ghost use Rattle.error.specs.Result.{told};
 ghost use Rattle.layout.specs.Layout.{answered, source_of, fields_of, zeros};
 ghost use Rattle.tracking.specs.Table.{tracking_of};
@@ -74,7 +74,7 @@ impl Record for TrackingStatus {
     const LEAST: usize = 82;
 
     fn read(payload: &[u8]) -> TrackingStatus {
-        let d = &payload[..82];
+        let d = &payload[..payload.len().min(82)];
         TrackingStatus {
             state: integer::byte_at(d, 1),
             flags: integer::byte_at(d, 2),
