@@ -13,42 +13,42 @@ pub fn write_int16(buf: &mut [u8], offset: usize, val: i16) -> Result<(), WireEr
     ensures { (told result ≡ writing (int_bytes 2 val) buf.old offset)
         × (buf.new ≡ written (int_bytes 2 val) buf.old offset) }
 {
-    write_bytes(buf, offset, &val.to_be_bytes())
+    write_uint16(buf, offset, val.cast_unsigned())
 }
 
 pub fn write_uint16(buf: &mut [u8], offset: usize, val: u16) -> Result<(), WireError>
     ensures { (told result ≡ writing (bytes_of 2 val) buf.old offset)
         × (buf.new ≡ written (bytes_of 2 val) buf.old offset) }
 {
-    write_bytes(buf, offset, &val.to_be_bytes())
+    write_bytes(buf, offset, &u16::to_be_bytes(val))
 }
 
 pub fn write_int24(buf: &mut [u8], offset: usize, val: i32) -> Result<(), WireError>
     ensures { (told result ≡ writing (int_bytes 3 val) buf.old offset)
         × (buf.new ≡ written (int_bytes 3 val) buf.old offset) }
 {
-    write_uint24(buf, offset, val.cast_unsigned())
+    write_uint24(buf, offset, bits_of(val))
 }
 
 pub fn write_uint24(buf: &mut [u8], offset: usize, val: u32) -> Result<(), WireError>
     ensures { (told result ≡ writing (bytes_of 3 val) buf.old offset)
         × (buf.new ≡ written (bytes_of 3 val) buf.old offset) }
 {
-    write_bytes(buf, offset, &val.to_be_bytes()[1..])
+    write_bytes(buf, offset, &u32::to_be_bytes(val)[1..])
 }
 
 pub fn write_int32(buf: &mut [u8], offset: usize, val: i32) -> Result<(), WireError>
     ensures { (told result ≡ writing (int_bytes 4 val) buf.old offset)
         × (buf.new ≡ written (int_bytes 4 val) buf.old offset) }
 {
-    write_bytes(buf, offset, &val.to_be_bytes())
+    write_uint32(buf, offset, bits_of(val))
 }
 
 pub fn write_uint32(buf: &mut [u8], offset: usize, val: u32) -> Result<(), WireError>
     ensures { (told result ≡ writing (bytes_of 4 val) buf.old offset)
         × (buf.new ≡ written (bytes_of 4 val) buf.old offset) }
 {
-    write_bytes(buf, offset, &val.to_be_bytes())
+    write_bytes(buf, offset, &u32::to_be_bytes(val))
 }
 
 // The bytes at a place, or refusal 8.
