@@ -1,6 +1,6 @@
 // A frame's parts: how much room is enough for their wire, before a byte of it is written, and the wire as it is put into a buffer.
 // Where there is less room than enough, the need is the wire's own length, as specs/Wire defines it.
-ghost use Rattle.std.specs.Prelude.{◌≡◌, ◌<◌, ◌≤◌, IfSome, length, unwrap_or};
+ghost use Rattle.std.specs.Prelude.{◌≡◌, ◌<◌, ◌≤◌, Some, IfSome, length, unwrap_or};
 ghost use Rattle.std.proofs.lemmas.List.Edits.{sets};
 ghost use Rattle.stuffing.specs.Stuff.{sum16};
 ghost use Rattle.encoding.specs.Wire.{checksum_of, wire_of};
@@ -69,7 +69,7 @@ impl Parts<'_> {
     fn measure(&self) -> Plan
         requires { length self.now.payload.now ≤ 65535 }
         ensures need { result.need ≡ length (wire_of (fields_of self.now)) }
-        ensures checksum { IfSome result.checksum (λ n. n ≡ checksum_of (fields_of self.now)) }
+        ensures checksum { result.checksum ≡ Some (checksum_of (fields_of self.now)) }
     {
         let h = tally(&self.head());
         let p = tally(self.payload);

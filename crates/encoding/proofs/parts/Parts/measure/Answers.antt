@@ -1,6 +1,6 @@
 -- `measure` meets its contract: the parts of a wire are tallied one by one.
 -- Their lengths add up without wrapping, since the payload has at most 65,535 bytes.
-use Rattle.std.proofs.Common.{ℕ, ◌+◌, ◌-◌, ◌%◌, List, length, refl, ap, ◌∙◌, arith}
+use Rattle.std.proofs.Common.{ℕ, ◌+◌, ◌-◌, ◌%◌, List, Some, length, refl, ap, ◌∙◌, arith}
 use Rattle.stuffing.specs.Stuff.{stuff}
 use Rattle.encoding.specs.Parts.{fields_of}
 use Rattle.encoding.proofs.Writing.{checksum-tallied, wire-measured, two-bytes}
@@ -8,7 +8,7 @@ use Rattle.encoding.proofs.parts.Parts.measure.Goals as goal
 
 pub returns-clause-checksum : goal.returns-clause-checksum
 returns-clause-checksum c =
-    checksum-tallied (fields_of c.args.self.now) c.head.result c.head.ensures c.tally-h.ensures.sum c.tally-p.ensures.sum refl
+    ap Some (checksum-tallied (fields_of c.args.self.now) c.head.result c.head.ensures c.tally-h.ensures.sum c.tally-p.ensures.sum refl)
 
 pub returns-clause-need : goal.returns-clause-need
 returns-clause-need c =
