@@ -236,9 +236,11 @@ impl Listed for ClubResult {
         [self.num_club_prc_points as i32, self.flags, self.poly_scale]
     }
 
+    // Each coefficient by its index: copied as a row, they cost a call of memcpy, and a list begun with zeros one of memset.
+    // So the archive for C needs no name from outside.
     fn figures(self) -> [f64; 53] {
-        let mut figures = [0.0; 53];
-        figures[..14].copy_from_slice(&[
+        let c = self.poly_coeffs;
+        [
             self.pre_club_speed,
             self.post_club_speed,
             self.strike_direction,
@@ -253,13 +255,45 @@ impl Listed for ClubResult {
             self.club_elevation,
             self.club_offset,
             self.club_height,
-        ]);
-        figures[14..50].copy_from_slice(&self.poly_coeffs);
-        figures[50..].copy_from_slice(&[
+            c[0],
+            c[1],
+            c[2],
+            c[3],
+            c[4],
+            c[5],
+            c[6],
+            c[7],
+            c[8],
+            c[9],
+            c[10],
+            c[11],
+            c[12],
+            c[13],
+            c[14],
+            c[15],
+            c[16],
+            c[17],
+            c[18],
+            c[19],
+            c[20],
+            c[21],
+            c[22],
+            c[23],
+            c[24],
+            c[25],
+            c[26],
+            c[27],
+            c[28],
+            c[29],
+            c[30],
+            c[31],
+            c[32],
+            c[33],
+            c[34],
+            c[35],
             self.pre_impact_time,
             self.post_impact_time,
             self.club_to_ball_time,
-        ]);
-        figures
+        ]
     }
 }
