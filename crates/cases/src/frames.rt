@@ -2,7 +2,7 @@
 // The case's numbers are the lent buffer's length, DEST, SRC and TYPE, H, and the sizes of the chunks offered in turn.
 use crate::case::{Case, low_byte, low_half};
 use crate::operation::FrameCall;
-use crate::say::{Line, Refusal, ask, each, end, filled, hex, read};
+use crate::say::{Line, Refusal, ask, each, end, filled, read};
 
 pub(crate) fn answer(
     call: FrameCall,
@@ -137,10 +137,10 @@ impl Source<'_> {
         line.put(" :");
         let end = self.offer(hold, |event| {
             if let Event::Frame(_, bytes) = event {
-                hex(line, bytes);
+                line.push_hex(bytes);
             }
         })?;
-        hex(line, hold.get(..end[0] as usize).unwrap_or(&[]));
+        line.push_hex(hold.get(..end[0] as usize).unwrap_or(&[]));
         line.put("\n");
         Ok(())
     }

@@ -113,16 +113,6 @@ pub(crate) fn each<T: Copy, D: Display + Drop, F: Fn(T) -> D>(
     }
 }
 
-// Two digits a byte, pushed as they are: through `write!` a byte took some 300 instructions, and most of a run.
-pub(crate) fn hex(line: &mut Line, bytes: &[u8]) {
-    for &byte in bytes {
-        line.push(DIGITS[usize::from(byte / 16)]);
-        line.push(DIGITS[usize::from(byte % 16)]);
-    }
-}
-
-const DIGITS: [u8; 16] = *b"0123456789abcdef";
-
 // The end of a line without bytes.
 pub(crate) fn end(line: &mut Line) {
     line.put(" :\n");
@@ -131,6 +121,6 @@ pub(crate) fn end(line: &mut Line) {
 // The bytes, and the line's end.
 pub(crate) fn bytes(line: &mut Line, bytes: &[u8]) {
     line.put(" :");
-    hex(line, bytes);
+    line.push_hex(bytes);
     line.put("\n");
 }

@@ -3,6 +3,8 @@
 use std::fmt;
 use std::fmt::{Display, Write};
 
+const DIGITS: [u8; 16] = *b"0123456789abcdef";
+
 // As a line of `report`, with no contract, and for `write!`.
 #[derive(Drop)]
 pub(crate) struct Text<const N: usize> {
@@ -31,6 +33,20 @@ impl<const N: usize> Text<N> {
             self.bytes[self.len] = byte;
             self.len += 1;
         }
+    }
+
+    // Two digits a byte. Through `write!` a byte took some 300 instructions, and most of a run; and the length is a number of its own
+    // meanwhile, as a length that is stored for each digit is waited for at the next.
+    pub(crate) fn push_hex(&mut self, bytes: &[u8]) {
+        let mut len = self.len;
+        for &byte in bytes {
+            if len < N.saturating_sub(1) {
+                self.bytes[len] = DIGITS[usize::from(byte / 16)];
+                self.bytes[len + 1] = DIGITS[usize::from(byte % 16)];
+                len += 2;
+            }
+        }
+        self.len = len;
     }
 
     // What a value prints.
