@@ -1,4 +1,4 @@
--- Bytes read past a string's end, and a block's stores one by one.
+-- Bytes read past a string's end, and a block that is laid over a part of a buffer.
 -- `block` reads by the first, `put_block` stores by the second.
 use mathlib.Core.Path.{◌≡◌, refl}
 use mathlib.Core.List.{List, [], ◌∷◌, ◌++◌, append_assoc}

@@ -1,4 +1,4 @@
-// Sixteen bytes at once: a block of a string, and a block stored in a buffer, each by a loop that needs no test of the place.
+// Sixteen bytes at once: a block of a string, and a block stored in a buffer where it fits.
 // `block` and `put_block` are what their contracts say of the whole string and the whole buffer.
 #![tactic(auto)]
 

@@ -1,5 +1,5 @@
 -- Two's complement over w bits: the number that they stand for, by halves, and that it fits.
--- `moved` is how `int_at` makes the number of fewer bits.
+-- `moved` is how `int24_at` makes the number of fewer bits.
 use Prim.Native.Nat.{ℕ, suc, ◌+◌, ◌-◌, ◌*◌, ◌/◌, ◌^◌, ◌<◌, ◌≤◌}
 use mathlib.Core.Path.{◌≡◌, sym, ap, subst, ◌∙◌}
 use mathlib.Core.Bool.{Bool, cond}

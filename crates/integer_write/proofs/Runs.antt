@@ -1,4 +1,4 @@
--- Runs of bytes: two, one behind the other, are one; one over a whole list is the list; and one laid over a part, put back, stands at the part's place.
+-- Runs of bytes: two, one behind the other, are one; and one laid over a part, put back, stands at the part's place.
 -- Each once over the bytes.
 use Prim.Native.Nat.{ℕ, ◌+◌, ◌-◌, ◌≤◌}
 use mathlib.Core.Path.{◌≡◌, sym, ap, ◌∙◌}
