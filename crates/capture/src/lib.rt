@@ -6,7 +6,7 @@ ghost use Rattle.std.specs.Prelude.{◌≡◌};
 ghost use Rattle.capture.specs.Capture.{Between};
 
 use error::WireError;
-use program::{Came, Sink};
+use program::{Came, Steady};
 use session::Session;
 
 // The longest piece that is read at once.
@@ -22,11 +22,19 @@ pub fn print_all(rt: &HostRuntime)
         hold: [0; 2048],
         lines: [0; 1048576],
     };
-    if program::read_all(rt, b"frames", &mut capture) {
+    if read_all(rt, &mut capture) {
         let splitter = capture.session.splitter;
         let reply = report::end_line(splitter.count, splitter.skipping, &mut capture.lines);
         print(rt, reply, &capture.lines);
     }
+}
+
+// Reads all of it. The session behind the last piece is one that calls of `piece` lead to, each with room for its lines.
+fn read_all(rt: &HostRuntime, capture: &mut Capture) -> bool
+    requires { Between capture.old.session capture.old.hold }
+    ensures { Between capture.new.session capture.new.hold }
+{
+    program::read_steady(rt, b"frames", capture)
 }
 
 // The session, its hold buffer, and room for the lines of a piece. The session is one that calls of `piece` lead to, each with room
@@ -40,13 +48,16 @@ struct Capture {
 }
 
 // The lines of each piece are printed.
-impl Sink<PIECE> for Capture {
+impl Steady<PIECE> for Capture {
     ghost use Rattle.std.proofs.Common.{ltb→lt};
 
-    ghost stands = { λ c. ∥ Between c.session c.hold ∥₁ };
+    ghost steady = { λ c. ∥ Between c.session c.hold ∥₁ };
+
+    ghost stands = { λ c. Between c.session c.hold };
 
     fn take(&mut self, rt: &HostRuntime, room: &[u8; PIECE], came: Came<PIECE>) -> bool
-        ensures { ∥ Between self.new.session self.new.hold ∥₁ }
+        ensures steady { ∥ Between self.new.session self.new.hold ∥₁ }
+        ensures further { Between self.old.session self.old.hold → Between self.new.session self.new.hold }
     {
         let piece = &room[..came.len];
         let reply = self.session.piece(&mut self.hold, piece, &mut self.lines);

@@ -16,7 +16,7 @@ use crate::case::{Case, Fault};
 use crate::operation::Operation;
 use crate::say::{Line, Refusal};
 use crate::text::Text;
-use program::{Came, Sink};
+use program::{Came, Steady};
 
 fn main(rt: HostRuntime) {
     if program::alone(
@@ -29,7 +29,7 @@ fn main(rt: HostRuntime) {
             hex: Text::new(),
             line: Line::new(),
         };
-        if program::read_all(&rt, b"cases", &mut replay) {
+        if program::read_steady(&rt, b"cases", &mut replay) {
             replay.end(&rt);
         }
     }
@@ -46,10 +46,10 @@ struct Replay {
     line: Line,
 }
 
-impl Sink<PIECE> for Replay {
+impl Steady<PIECE> for Replay {
     ghost use Rattle.std.proofs.Common.{ltb→lt};
 
-    ghost stands = { λ _. ⊤ };
+    ghost steady = { λ _. ⊤ };
 
     fn take(&mut self, rt: &HostRuntime, room: &[u8; PIECE], came: Came<PIECE>) -> bool
         ensures { ⊤ }

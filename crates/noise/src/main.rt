@@ -5,7 +5,7 @@
 ghost use Rattle.noise.specs.Line.{Between};
 
 use error::WireError;
-use program::{Came, Sink};
+use program::{Came, Steady};
 use report::Count;
 use splitter::{Counts, FrameSplitter};
 
@@ -28,9 +28,17 @@ fn count_all(rt: &HostRuntime) {
         splitter: FrameSplitter::new(),
         hold: [0; 2048],
     };
-    if program::read_all(rt, b"noise", &mut line) {
+    if read_all(rt, &mut line) {
         print_counts(rt, line.splitter.counts);
     }
+}
+
+// Reads all of it. The splitter behind the last piece is one that calls of `take_all` lead to.
+fn read_all(rt: &HostRuntime, line: &mut Line) -> bool
+    requires { Between line.old.splitter line.old.hold }
+    ensures { Between line.new.splitter line.new.hold }
+{
+    program::read_steady(rt, b"noise", line)
 }
 
 // The splitter, and its hold buffer. The splitter is one that calls of `take_all` lead to.
@@ -42,13 +50,16 @@ struct Line {
 }
 
 // Each piece is counted.
-impl Sink<PIECE> for Line {
+impl Steady<PIECE> for Line {
     ghost use Rattle.std.proofs.Common.{ltb→lt};
 
-    ghost stands = { λ l. ∥ Between l.splitter l.hold ∥₁ };
+    ghost steady = { λ l. ∥ Between l.splitter l.hold ∥₁ };
+
+    ghost stands = { λ l. Between l.splitter l.hold };
 
     fn take(&mut self, rt: &HostRuntime, room: &[u8; PIECE], came: Came<PIECE>) -> bool
-        ensures { ∥ Between self.new.splitter self.new.hold ∥₁ }
+        ensures steady { ∥ Between self.new.splitter self.new.hold ∥₁ }
+        ensures further { Between self.old.splitter self.old.hold → Between self.new.splitter self.new.hold }
     {
         let piece = &room[..came.len];
         let reply = line_noise::take_all(&mut self.splitter, &mut self.hold, piece);
